@@ -1,0 +1,5 @@
+pub mod Difference
+pub mod Ring
+pub mod Congruence
+pub mod Wrap
+pub mod Word

@@ -1,0 +1,1 @@
+// Laws on the integers: definitions in specs/, their laws in proofs/. No code.
