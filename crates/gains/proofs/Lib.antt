@@ -1,0 +1,2 @@
+pub mod Butterfly
+pub mod Unread
