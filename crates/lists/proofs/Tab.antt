@@ -1,0 +1,84 @@
+-- Lists by their elements, and the law of a loop that fills one from the front.
+-- Assumes nothing.
+use Prim.Native.Nat.{ℕ, zero, suc, _+_, _≤_, _<_}
+use mathlib.Core.Path.{_≡_, refl, sym, ap, _∙_}
+use mathlib.Core.List.{List, [], _∷_, _++_, map}
+use native.Mathlib.Decide.{decLt}
+use native.Mathlib.Nat.{le-of-lt}
+use native.Mathlib.Numerals.{add-one}
+use native.Mathlib.Omega.{arith}
+use lib.ListN.{length, take, set, getD, length-set, length-append, List·getD-append}
+use lib.Seq.{take-all, take-suc, take-suc-set, getD-at, ext-getD}
+use Rattle.lists.specs.Tab.{tab}
+
+-- l has n elements, of which the first k are f's
+pub record Filled {A : Type 0} (f : ℕ → A) (n k : ℕ) (l : List A) : Type 0 where
+  pub long : length l ≡ n
+  pub front : take k l ≡ tab k f
+
+module _ {A : Type 0} (f : ℕ → A) (n : ℕ) where
+  pub none : (l : List A) → length l ≡ n → Filled f n 0 l
+  unfolding tab
+  none l e = record { long = e; front = refl }
+
+  pub more : (k k′ : ℕ) (l : List A) (v : A) → Filled f n k l → k < n → k′ ≡ k + 1 → v ≡ f k → Filled f n k′ (set l k v)
+  unfolding tab
+  more k k′ l v h b s e =
+      let i : k < length l = omega (arith, h .long) in
+      record { long = length-set l k v ∙ h .long; front = rw (s, add-one, take-suc-set, h .front, e) }
+
+  -- the same count, said in another way
+  pub same : (k k′ : ℕ) (l : List A) → Filled f n k l → k ≡ k′ → Filled f n k′ l
+  same k k′ l h e = rw (← e) h
+
+  pub all : (k : ℕ) (l : List A) → Filled f n k l → n ≤ k → k ≤ n → l ≡ tab n f
+  all k l h a b =
+      let e : k ≡ n = omega arith in
+      sym (take-all k l (omega (arith, h .long))) ∙ h .front ∙ ap (λ (m : ℕ). tab m f) e
+
+-- a list by its own elements
+tab-take : {A : Type 0} (d : A) (l : List A) (k : ℕ) → k ≤ length l → tab k (λ i. getD l i d) ≡ take k l
+unfolding tab
+tab-take d l zero h = refl
+tab-take d l (suc k) h = rw (tab-take d l k (le-of-lt h), take-suc l k d)
+
+pub tab-getD : {A : Type 0} (d : A) (l : List A) (n : ℕ) → length l ≡ n → tab n (λ i. getD l i d) ≡ l
+tab-getD d l n e = tab-take d l n (omega arith) ∙ take-all n l (omega arith)
+
+-- what stands at a place, and two such lists that agree at each place
+pub length-tab : {A : Type 0} (n : ℕ) (f : ℕ → A) → length (tab n f) ≡ n
+unfolding tab
+length-tab zero f = refl
+length-tab (suc n) f = omega (arith, length-append (tab n f) (f n ∷ []), length-tab n f)
+
+pub getD-tab : {A : Type 0} (n : ℕ) (f : ℕ → A) (d : A) (i : ℕ) → i < n → getD (tab n f) i d ≡ f i
+unfolding tab
+getD-tab zero f d i h = absurd (omega arith)
+getD-tab (suc n) f d i h = go (decLt i n) (getD-tab n f d i)
+  where
+    go : Dec (i < n) → (i < n → getD (tab n f) i d ≡ f i) → getD (tab n f ++ (f n ∷ [])) i d ≡ f i
+    go (yes b) e = List·getD-append (tab n f) (f n ∷ []) d i (omega (arith, length-tab n f)) ∙ e b
+    go (no b) e =
+        let q : i ≡ n = omega arith in
+        rw q (getD-at (tab n f) (f n) [] d n (length-tab n f))
+
+pub tab-ext : {A : Type 0} (n : ℕ) (f g : ℕ → A) → ((i : ℕ) → i < n → f i ≡ g i) → tab n f ≡ tab n g
+unfolding tab
+tab-ext zero f g h = refl
+tab-ext (suc n) f g h = rw (tab-ext n f g (λ i b. h i (omega arith)), h n (omega arith))
+
+pub by-elements : {A : Type 0} (n : ℕ) (f : ℕ → A) (d : A) (l : List A) → length l ≡ n → ((i : ℕ) → i < n → getD l i d ≡ f i) → l ≡ tab n f
+by-elements n f d l e h = ext-getD d l (tab n f) (e ∙ sym (length-tab n f)) (λ i b. h i (omega arith) ∙ sym (getD-tab n f d i (omega arith)))
+
+map-snoc : {A B : Type 0} (f : A → B) (l : List A) (x : A) → map f (l ++ (x ∷ [])) ≡ map f l ++ (f x ∷ [])
+map-snoc f [] x = refl
+map-snoc {B = B} f (y ∷ l) x = ap (λ (t : List B). f y ∷ t) (map-snoc f l x)
+
+-- a map of a list, by its elements
+pub map-tab : {A B : Type 0} (f : A → B) (g : ℕ → A) (n : ℕ) → map f (tab n g) ≡ tab n (λ i. f (g i))
+unfolding tab
+map-tab f g zero = refl
+map-tab {B = B} f g (suc n) = map-snoc f (tab n g) (g n) ∙ ap (λ (t : List B). t ++ (f (g n) ∷ [])) (map-tab f g n)
+
+pub map-getD : {A B : Type 0} (f : A → B) (d : A) (l : List A) (n : ℕ) → length l ≡ n → tab n (λ i. f (getD l i d)) ≡ map f l
+map-getD f d l n e = sym (map-tab f (λ i. getD l i d) n) ∙ ap (map f) (tab-getD d l n e)

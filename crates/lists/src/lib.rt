@@ -1,0 +1,1 @@
+// Laws on lists: definitions in specs/, their laws in proofs/. No code.
