@@ -68,3 +68,7 @@ module _ (w : Width) where
 
   pub wrap-* : (a k : ℤ) → wrap w (wrap w a *ℤ k) ≡ wrap w (a *ℤ k)
   wrap-* a k = wrap-cong (times (wrap-congruent a) (itself k))
+
+  -- what a call gave as a wrapped number, read back from its bits
+  pub wrap-read : {r : ℤ} (z : ℤ) → r ≡ wrap w z → toZ w (ofZ w r) ≡ wrap w z
+  wrap-read z e = rw e (toZ-ofZ w (wrap w z) (wrap-fits z))
