@@ -1,4 +1,4 @@
-// The little-endian numbers of one case.
+// The inputs of one case: little-endian numbers.
 ghost use Prim.Native.Nat.{_+_, _≤_};
 
 // A case is read into this many bytes, of which it may fill fewer.
@@ -28,13 +28,13 @@ pub fn u16_at(case: &[u8; ROOM], at: usize) -> u16
     double(case[at]) | double(case[at + 1]) << 8
 }
 
-fn u32_at(case: &[u8; ROOM], at: usize) -> u32
+pub fn u32_at(case: &[u8; ROOM], at: usize) -> u32
     requires { ⌜ at + 4 ≤ 512 ⌝ }
 {
     wide(case[at]) | wide(case[at + 1]) << 8 | wide(case[at + 2]) << 16 | wide(case[at + 3]) << 24
 }
 
-fn u64_at(case: &[u8; ROOM], at: usize) -> u64
+pub fn u64_at(case: &[u8; ROOM], at: usize) -> u64
     requires { ⌜ at + 8 ≤ 512 ⌝ }
 {
     wider(u32_at(case, at)) | wider(u32_at(case, at + 4)) << 32
@@ -77,37 +77,4 @@ pub fn row_i64(case: &[u8; ROOM]) -> [i64; 8] {
         i64_at(case, 48),
         i64_at(case, 56),
     ]
-}
-
-// Whether what stands at `at` differs from these values. What the case has no room for differs.
-pub fn differ_i32(case: &[u8; ROOM], at: usize, values: &[i32]) -> bool {
-    let mut i = 0;
-    let mut at = at;
-    while i < values.len() {
-        if at > ROOM - 4 {
-            return true;
-        }
-        if i32_at(case, at) != values[i] {
-            return true;
-        }
-        i += 1;
-        at += 4;
-    }
-    false
-}
-
-pub fn differ_i64(case: &[u8; ROOM], at: usize, values: &[i64]) -> bool {
-    let mut i = 0;
-    let mut at = at;
-    while i < values.len() {
-        if at > ROOM - 8 {
-            return true;
-        }
-        if i64_at(case, at) != values[i] {
-            return true;
-        }
-        i += 1;
-        at += 8;
-    }
-    false
 }

@@ -1,5 +1,6 @@
 // Runs the oracle's answers, the files of data/, through the exported functions, and prints for
 // each function how many cases its file holds and how many of them differ.
+mod compare;
 mod decode;
 mod function;
 mod islow_cases;
