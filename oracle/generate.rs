@@ -235,8 +235,17 @@ fn pass_vectors(count: usize) -> Vec<[i32; 8]> {
         p
     };
     all.extend(powers::<i32>().into_iter().map(dc_only));
-    // Where 4 * p0 and p0 + 16 wrap, and where p0 / 32 steps.
-    for near in [1 << 29, -(1 << 29), 1 << 30, -(1 << 30), 0] {
+    // Where p0 / 32 steps, and where 8192 * p0 in the full pass, 4 * p0 and
+    // p0 + 16 wrap.
+    for near in [
+        0,
+        1 << 18,
+        -(1 << 18),
+        1 << 29,
+        -(1 << 29),
+        1 << 30,
+        -(1 << 30),
+    ] {
         all.extend((near - 40..=near + 40).map(dc_only));
     }
     all.extend((most::<i32>() - 40..=most::<i32>()).map(dc_only));
