@@ -1,4 +1,5 @@
-// The functions that are replayed.
+// The functions that are replayed. One more is a function of a `.._cases` module, a variant and an
+// arm here, a line of main.rt with the size of its cases, and its answers in oracle/generate.rs.
 use crate::decode::ROOM;
 use crate::islow_cases;
 use crate::scaling_cases;

@@ -7,7 +7,7 @@ mod islow_cases;
 mod scaling_cases;
 mod word_cases;
 
-ghost use Prim.Native.Nat.{_<_, _≤_};
+ghost use Prim.Native.Nat.{_≤_};
 use decode::ROOM;
 use function::Function;
 use libc::STDOUT_FILENO;
