@@ -1,0 +1,108 @@
+// Prints what the exported functions give at known places, one fact a line: the ends of what a
+// function takes, refusals, and the differences from the Rust.
+use libc::STDOUT_FILENO;
+
+fn text(bytes: &[u8]) {
+    io::write_all(STDOUT_FILENO, bytes);
+}
+
+fn decimal(n: u32) {
+    io::print_decimal(STDOUT_FILENO, n as u64);
+}
+
+// A number with its sign, in decimal.
+fn number(n: i32) {
+    let bits = word::to_bits_i32(n);
+    if n < 0 {
+        text(b"-");
+        decimal(std::num::wrapping_sub_u32(0, bits));
+    } else {
+        decimal(bits);
+    }
+}
+
+fn number_i64(n: i64) {
+    let bits = word::to_bits_i64(n);
+    if n < 0 {
+        text(b"-");
+        io::print_decimal(STDOUT_FILENO, std::num::wrapping_sub_u64(0, bits));
+    } else {
+        io::print_decimal(STDOUT_FILENO, bits);
+    }
+}
+
+fn descale(value: i32, shift: i32) {
+    text(b"descale ");
+    number(value);
+    text(b" by ");
+    number(shift);
+    text(b": ");
+    let got = scaling::descale(value, shift);
+    if got.status != 0 {
+        text(b"refused ");
+        decimal(got.status);
+        text(b", value ");
+    }
+    number(got.value);
+    text(b"\n");
+}
+
+fn sample_u8(value: i32) {
+    text(b"sample_u8 ");
+    number(value);
+    text(b": ");
+    decimal(scaling::sample_u8(value) as u32);
+    text(b"\n");
+}
+
+fn sample_12bit(value: i64) {
+    text(b"sample_12bit ");
+    number_i64(value);
+    text(b": ");
+    decimal(scaling::sample_12bit(value) as u32);
+    text(b"\n");
+}
+
+fn islow_gain_bounds() {
+    let got = islow::islow_gain_bounds();
+    text(b"islow_gain_bounds: ");
+    number(got.max_gain);
+    text(b" ");
+    number(got.max_l1);
+    text(b"\n");
+}
+
+// The first and the last shift that work, with halves and a sum that wraps.
+fn shifts_that_work() {
+    descale(5, 1);
+    descale(-5, 1);
+    descale(i32::MAX, 1);
+    descale(5, 31);
+    descale(-5, 31);
+    descale(i32::MAX, 31);
+}
+
+fn shifts_refused() {
+    descale(5, 0);
+    descale(-5, 32);
+    descale(i32::MAX, -1);
+    descale(5, i32::MIN);
+    descale(5, i32::MAX);
+}
+
+fn samples() {
+    // 128 is added before the clamp, and the sum wraps.
+    sample_u8(2147483519);
+    sample_u8(2147483520);
+    // The last value whose sum with 2048 fits, then two where the Rust overflows.
+    sample_12bit(9223372036854773759);
+    sample_12bit(9223372036854773760);
+    sample_12bit(i64::MAX);
+}
+
+fn main() {
+    shifts_that_work();
+    shifts_refused();
+    samples();
+    islow_gain_bounds();
+}

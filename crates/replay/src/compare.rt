@@ -1,0 +1,65 @@
+// A function's answers against those of a case, at `at`. They are compared bit for bit, so that a
+// fault in how the inputs are decoded cannot hide a difference.
+ghost use Prim.Native.Nat.{_+_, _≤_};
+use crate::decode::ROOM;
+use crate::decode::u8_at;
+use crate::decode::u16_at;
+use crate::decode::u32_at;
+use crate::decode::u64_at;
+
+pub fn differs_u8(case: &[u8; ROOM], at: usize, answer: u8) -> bool
+    requires { ⌜ at + 1 ≤ 512 ⌝ }
+{
+    answer != u8_at(case, at)
+}
+
+pub fn differs_u16(case: &[u8; ROOM], at: usize, answer: u16) -> bool
+    requires { ⌜ at + 2 ≤ 512 ⌝ }
+{
+    answer != u16_at(case, at)
+}
+
+pub fn differs_i32(case: &[u8; ROOM], at: usize, answer: i32) -> bool
+    requires { ⌜ at + 4 ≤ 512 ⌝ }
+{
+    word::to_bits_i32(answer) != u32_at(case, at)
+}
+
+pub fn differs_i64(case: &[u8; ROOM], at: usize, answer: i64) -> bool
+    requires { ⌜ at + 8 ≤ 512 ⌝ }
+{
+    word::to_bits_i64(answer) != u64_at(case, at)
+}
+
+// Whether any of the answers differs. One that the case has no room for does.
+pub fn any_differs_i32(case: &[u8; ROOM], at: usize, answers: &[i32]) -> bool {
+    let mut i = 0;
+    let mut at = at;
+    while i < answers.len() {
+        if at > ROOM - 4 {
+            return true;
+        }
+        if differs_i32(case, at, answers[i]) {
+            return true;
+        }
+        i += 1;
+        at += 4;
+    }
+    false
+}
+
+pub fn any_differs_i64(case: &[u8; ROOM], at: usize, answers: &[i64]) -> bool {
+    let mut i = 0;
+    let mut at = at;
+    while i < answers.len() {
+        if at > ROOM - 8 {
+            return true;
+        }
+        if differs_i64(case, at, answers[i]) {
+            return true;
+        }
+        i += 1;
+        at += 8;
+    }
+    false
+}

@@ -1,0 +1,80 @@
+// The inputs of one case: little-endian numbers.
+ghost use Prim.Native.Nat.{_+_, _≤_};
+
+// A case is read into this many bytes, of which it may fill fewer.
+pub const ROOM: usize = 512;
+
+fn double(byte: u8) -> u16 {
+    byte as u16
+}
+
+fn wide(byte: u8) -> u32 {
+    byte as u32
+}
+
+fn wider(half: u32) -> u64 {
+    half as u64
+}
+
+pub fn u8_at(case: &[u8; ROOM], at: usize) -> u8
+    requires { ⌜ at + 1 ≤ 512 ⌝ }
+{
+    case[at]
+}
+
+pub fn u16_at(case: &[u8; ROOM], at: usize) -> u16
+    requires { ⌜ at + 2 ≤ 512 ⌝ }
+{
+    double(case[at]) | double(case[at + 1]) << 8
+}
+
+pub fn u32_at(case: &[u8; ROOM], at: usize) -> u32
+    requires { ⌜ at + 4 ≤ 512 ⌝ }
+{
+    wide(case[at]) | wide(case[at + 1]) << 8 | wide(case[at + 2]) << 16 | wide(case[at + 3]) << 24
+}
+
+pub fn u64_at(case: &[u8; ROOM], at: usize) -> u64
+    requires { ⌜ at + 8 ≤ 512 ⌝ }
+{
+    wider(u32_at(case, at)) | wider(u32_at(case, at + 4)) << 32
+}
+
+pub fn i32_at(case: &[u8; ROOM], at: usize) -> i32
+    requires { ⌜ at + 4 ≤ 512 ⌝ }
+{
+    word::from_bits_u32(u32_at(case, at))
+}
+
+pub fn i64_at(case: &[u8; ROOM], at: usize) -> i64
+    requires { ⌜ at + 8 ≤ 512 ⌝ }
+{
+    word::from_bits_u64(u64_at(case, at))
+}
+
+// The eight numbers that a case starts with: one row or column.
+pub fn row_i32(case: &[u8; ROOM]) -> [i32; 8] {
+    [
+        i32_at(case, 0),
+        i32_at(case, 4),
+        i32_at(case, 8),
+        i32_at(case, 12),
+        i32_at(case, 16),
+        i32_at(case, 20),
+        i32_at(case, 24),
+        i32_at(case, 28),
+    ]
+}
+
+pub fn row_i64(case: &[u8; ROOM]) -> [i64; 8] {
+    [
+        i64_at(case, 0),
+        i64_at(case, 8),
+        i64_at(case, 16),
+        i64_at(case, 24),
+        i64_at(case, 32),
+        i64_at(case, 40),
+        i64_at(case, 48),
+        i64_at(case, 56),
+    ]
+}

@@ -1,0 +1,59 @@
+// The functions that are replayed. One more is a function of a `.._cases` module, a variant and an
+// arm here, a line of main.rt with the size of its cases, and its answers in oracle/generate.rs.
+use crate::decode::ROOM;
+use crate::islow_cases;
+use crate::scaling_cases;
+use crate::word_cases;
+
+pub enum Function {
+    WrappingAddI32,
+    WrappingSubI32,
+    WrappingMulI32,
+    WrappingAddI64,
+    WrappingSubI64,
+    WrappingMulI64,
+    Descale,
+    IslowDc,
+    SampleU8,
+    SampleCentered,
+    Sample12bit,
+    Islow1d,
+    Islow1d4,
+    Islow1d2,
+    IslowGainBounds,
+    Islow1dI64,
+    Islow1d4I64,
+    Islow1d2I64,
+    IslowPass1,
+    IslowPass2,
+    IslowColumn,
+    IslowRow,
+}
+
+// Whether the function's answer for this case differs from the oracle's.
+pub fn differs(function: Function, case: &[u8; ROOM]) -> bool {
+    match function {
+        Function::WrappingAddI32 => word_cases::wrapping_add_i32(case),
+        Function::WrappingSubI32 => word_cases::wrapping_sub_i32(case),
+        Function::WrappingMulI32 => word_cases::wrapping_mul_i32(case),
+        Function::WrappingAddI64 => word_cases::wrapping_add_i64(case),
+        Function::WrappingSubI64 => word_cases::wrapping_sub_i64(case),
+        Function::WrappingMulI64 => word_cases::wrapping_mul_i64(case),
+        Function::Descale => scaling_cases::descale(case),
+        Function::IslowDc => scaling_cases::islow_dc(case),
+        Function::SampleU8 => scaling_cases::sample_u8(case),
+        Function::SampleCentered => scaling_cases::sample_centered(case),
+        Function::Sample12bit => scaling_cases::sample_12bit(case),
+        Function::Islow1d => islow_cases::islow_1d(case),
+        Function::Islow1d4 => islow_cases::islow_1d_4(case),
+        Function::Islow1d2 => islow_cases::islow_1d_2(case),
+        Function::IslowGainBounds => islow_cases::islow_gain_bounds(case),
+        Function::Islow1dI64 => islow_cases::islow_1d_i64(case),
+        Function::Islow1d4I64 => islow_cases::islow_1d_4_i64(case),
+        Function::Islow1d2I64 => islow_cases::islow_1d_2_i64(case),
+        Function::IslowPass1 => islow_cases::islow_pass1(case),
+        Function::IslowPass2 => islow_cases::islow_pass2(case),
+        Function::IslowColumn => islow_cases::islow_column(case),
+        Function::IslowRow => islow_cases::islow_row(case),
+    }
+}

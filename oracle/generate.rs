@@ -1,0 +1,458 @@
+//! Writes a fixed list of the oracle's answers, one file for each function.
+//!
+//! A file is a text header of 256 bytes, then cases of one size: the inputs,
+//! then the answers, little-endian. Boundary cases come first, then random
+//! ones from a fixed seed, so a second run gives the same bytes.
+//!
+//! Arguments: the folder for the files, and the file for the lines that the
+//! replay must print.
+
+use j2k_codec_math::jpeg::idct;
+use std::path::PathBuf;
+
+const SEED: u64 = 0x000c_61cb_298a;
+const HEADER: usize = 256;
+
+/// splitmix64.
+struct Random(u64);
+
+impl Random {
+    fn next(&mut self) -> u64 {
+        self.0 = self.0.wrapping_add(0x9e37_79b9_7f4a_7c15);
+        let mut z = self.0;
+        z = (z ^ (z >> 30)).wrapping_mul(0xbf58_476d_1ce4_e5b9);
+        z = (z ^ (z >> 27)).wrapping_mul(0x94d0_49bb_1331_11eb);
+        z ^ (z >> 31)
+    }
+
+    fn below(&mut self, n: u64) -> u64 {
+        self.next() % n
+    }
+
+    /// A signed number of `bits` bits.
+    fn signed(&mut self, bits: u32) -> i64 {
+        (self.next() as i64) >> (64 - bits)
+    }
+
+    /// A signed number of 1 to `bits` bits, each width as likely as the next.
+    fn any_width(&mut self, bits: u32) -> i64 {
+        let width = 1 + self.below(u64::from(bits)) as u32;
+        self.signed(width)
+    }
+}
+
+/// What a case is made of.
+trait Put {
+    fn put(&self, to: &mut Vec<u8>);
+}
+
+macro_rules! put_number {
+    ($($t:ty)*) => {$(
+        impl Put for $t {
+            fn put(&self, to: &mut Vec<u8>) {
+                to.extend(self.to_le_bytes());
+            }
+        }
+    )*};
+}
+put_number!(u8 u16 i32 i64);
+
+impl<T: Put, const N: usize> Put for [T; N] {
+    fn put(&self, to: &mut Vec<u8>) {
+        self.iter().for_each(|x| x.put(to));
+    }
+}
+
+impl<A: Put, B: Put> Put for (A, B) {
+    fn put(&self, to: &mut Vec<u8>) {
+        self.0.put(to);
+        self.1.put(to);
+    }
+}
+
+/// The numbers that the transforms are tried on: `i32` and `i64`.
+trait Number: Copy + PartialEq {
+    const BITS: u32;
+    fn of(x: i64) -> Self;
+}
+
+impl Number for i32 {
+    const BITS: u32 = 32;
+    fn of(x: i64) -> Self {
+        i32::try_from(x).expect("a number of 32 bits")
+    }
+}
+
+impl Number for i64 {
+    const BITS: u32 = 64;
+    fn of(x: i64) -> Self {
+        x
+    }
+}
+
+fn least<T: Number>() -> i64 {
+    i64::MIN >> (64 - T::BITS)
+}
+
+fn most<T: Number>() -> i64 {
+    i64::MAX >> (64 - T::BITS)
+}
+
+/// Zero, every power of two, its neighbours and their negatives.
+fn powers<T: Number>() -> Vec<i64> {
+    let mut all = vec![0];
+    for k in 0..T::BITS - 1 {
+        let p = 1i64 << k;
+        all.extend([p - 1, p, p + 1, -p - 1, -p, 1 - p]);
+    }
+    all.extend([most::<T>() - 1, most::<T>(), least::<T>(), least::<T>() + 1]);
+    all.sort_unstable();
+    all.dedup();
+    all
+}
+
+/// The ends of the type, small numbers and the ends of 16 bits.
+fn ends<T: Number>() -> Vec<i64> {
+    vec![
+        least::<T>(),
+        least::<T>() + 1,
+        least::<T>() / 2,
+        -65_536,
+        -32_768,
+        -2,
+        -1,
+        0,
+        1,
+        2,
+        32_767,
+        65_536,
+        most::<T>() / 2,
+        most::<T>() / 2 + 1,
+        most::<T>() - 1,
+        most::<T>(),
+    ]
+}
+
+fn randoms<T: Number>(count: usize) -> Vec<T> {
+    let mut random = Random(SEED);
+    (0..count)
+        .map(|_| T::of(random.any_width(T::BITS)))
+        .collect()
+}
+
+/// `count` numbers: the boundary ones, then random ones.
+fn numbers<T: Number>(boundary: Vec<i64>, count: usize) -> Vec<T> {
+    let mut all: Vec<T> = boundary.into_iter().map(T::of).collect();
+    assert!(all.len() < count);
+    let rest = count - all.len();
+    all.extend(randoms::<T>(rest));
+    all
+}
+
+/// Pairs: the ends of the type with each other, then random ones.
+fn pairs<T: Number>(count: usize) -> Vec<(T, T)> {
+    let mut all = Vec::new();
+    for a in ends::<T>() {
+        for b in ends::<T>() {
+            all.push((T::of(a), T::of(b)));
+        }
+    }
+    let mut random = Random(SEED);
+    while all.len() < count {
+        let a = T::of(random.any_width(T::BITS));
+        let b = T::of(random.any_width(T::BITS));
+        all.push((a, b));
+    }
+    all
+}
+
+/// Every shift from 1 to 31, with boundary values and random ones.
+fn shifted() -> Vec<(i32, i32)> {
+    let mut random = Random(SEED);
+    let mut all = Vec::new();
+    for shift in 1..=31 {
+        let half = 1i64 << (shift - 1);
+        let mut values = ends::<i32>();
+        // Halves, and the sums that wrap.
+        for x in [half, 2 * half, 3 * half, 1 + most::<i32>() - half] {
+            values.extend([x - 1, x, x + 1, -x - 1, -x, 1 - x]);
+        }
+        values.retain(|x| (least::<i32>()..=most::<i32>()).contains(x));
+        values.extend((0..60).map(|_| random.any_width(32)));
+        all.extend(values.into_iter().map(|v| (i32::of(v), shift)));
+    }
+    all
+}
+
+/// One row or column: the inputs of the 1-D transforms.
+fn vectors<T: Number>(count: usize) -> Vec<[T; 8]> {
+    let mut all = vec![[T::of(0); 8]];
+    for k in 0..8 {
+        for x in ends::<T>() {
+            let mut p = [T::of(0); 8];
+            p[k] = T::of(x);
+            all.push(p);
+        }
+    }
+    for x in ends::<T>() {
+        all.push([T::of(x); 8]);
+    }
+    // Every choice of an end of the type for each entry.
+    for signs in 0..256 {
+        all.push(core::array::from_fn(|k| {
+            T::of(if signs >> k & 1 == 0 {
+                least::<T>()
+            } else {
+                most::<T>()
+            })
+        }));
+    }
+    let mut random = Random(SEED);
+    assert!(all.len() < count);
+    while all.len() < count {
+        let kind = all.len() % 4;
+        // Of one width for the whole row, so that the sums reach every size.
+        let width = 1 + random.below(u64::from(T::BITS)) as u32;
+        all.push(core::array::from_fn(|_| {
+            T::of(match kind {
+                0 => random.signed(16),
+                1 => random.signed(T::BITS),
+                2 => random.signed(width),
+                _ => random.any_width(T::BITS),
+            })
+        }));
+    }
+    all
+}
+
+/// The vectors of the passes: those above, and many that take the shortcut for
+/// zero AC terms or miss it by one entry.
+fn pass_vectors(count: usize) -> Vec<[i32; 8]> {
+    let mut all = Vec::new();
+    let dc_only = |dc: i64| {
+        let mut p = [0; 8];
+        p[0] = i32::of(dc);
+        p
+    };
+    all.extend(powers::<i32>().into_iter().map(dc_only));
+    // Where p0 / 32 steps, and where 8192 * p0 in the full pass, 4 * p0 and
+    // p0 + 16 wrap.
+    for near in [
+        0,
+        1 << 18,
+        -(1 << 18),
+        1 << 29,
+        -(1 << 29),
+        1 << 30,
+        -(1 << 30),
+    ] {
+        all.extend((near - 40..=near + 40).map(dc_only));
+    }
+    all.extend((most::<i32>() - 40..=most::<i32>()).map(dc_only));
+    let mut random = Random(SEED);
+    for _ in 0..200 {
+        all.push(dc_only(random.any_width(32)));
+    }
+    for k in 1..8 {
+        for ac in [1, -1, 1 << 16, i32::MIN, i32::MAX] {
+            for dc in [0, 65_536, i64::from(i32::MAX), i64::from(i32::MIN)] {
+                let mut p = dc_only(dc);
+                p[k] = ac;
+                all.push(p);
+            }
+        }
+        for _ in 0..10 {
+            let mut p = dc_only(random.any_width(32));
+            p[k] = i32::of(random.any_width(32));
+            all.push(p);
+        }
+    }
+    assert!(all.len() < count);
+    let rest = count - all.len();
+    all.extend(vectors::<i32>(rest));
+    all
+}
+
+struct Answers {
+    folder: PathBuf,
+    lines: String,
+}
+
+impl Answers {
+    /// Writes the file of one function. `layout` says what a case holds.
+    fn save<I: Put + Copy, A: Put>(
+        &mut self,
+        name: &str,
+        layout: &str,
+        inputs: &[I],
+        answer: impl Fn(I) -> A,
+    ) {
+        let count = inputs.len();
+        let mut bytes = format!(
+            "{name}: the answers of frames-sg/j2k at 0c61cb298a built with rustc, \
+             made by oracle/generate; seed {SEED:#x}; {count} cases; \
+             one case, little-endian: {layout}"
+        )
+        .into_bytes();
+        assert!(bytes.len() < HEADER);
+        bytes.resize(HEADER - 1, b' ');
+        bytes.push(b'\n');
+        for &input in inputs {
+            input.put(&mut bytes);
+            answer(input).put(&mut bytes);
+        }
+        std::fs::write(self.folder.join(name), bytes).expect("the folder takes the file");
+        self.lines += &format!("{name} {count} cases 0 differences\n");
+    }
+}
+
+fn word(to: &mut Answers) {
+    let pairs32 = pairs::<i32>(2_000);
+    let layout = "a i32, b i32; answer i32";
+    to.save("wrapping_add_i32", layout, &pairs32, |(a, b)| {
+        a.wrapping_add(b)
+    });
+    to.save("wrapping_sub_i32", layout, &pairs32, |(a, b)| {
+        a.wrapping_sub(b)
+    });
+    to.save("wrapping_mul_i32", layout, &pairs32, |(a, b)| {
+        a.wrapping_mul(b)
+    });
+    let pairs64 = pairs::<i64>(2_000);
+    let layout = "a i64, b i64; answer i64";
+    to.save("wrapping_add_i64", layout, &pairs64, |(a, b)| {
+        a.wrapping_add(b)
+    });
+    to.save("wrapping_sub_i64", layout, &pairs64, |(a, b)| {
+        a.wrapping_sub(b)
+    });
+    to.save("wrapping_mul_i64", layout, &pairs64, |(a, b)| {
+        a.wrapping_mul(b)
+    });
+}
+
+fn scaling(to: &mut Answers) {
+    to.save(
+        "descale",
+        "value i32, shift i32 of 1 to 31; answer i32",
+        &shifted(),
+        |(value, shift)| idct::descale(value, shift),
+    );
+
+    to.save(
+        "islow_dc",
+        "dc i32; answer i32",
+        &numbers::<i32>(powers::<i32>(), 1_000),
+        idct::islow_dc,
+    );
+
+    let mut edges: Vec<i64> = (-140..=400).collect();
+    edges.extend(powers::<i32>());
+    // value + 128 wraps from 2147483520 on.
+    edges.extend(2_147_483_510..=2_147_483_530);
+    let samples = numbers::<i32>(edges, 1_500);
+    to.save(
+        "sample_u8",
+        "value i32; answer u8",
+        &samples,
+        idct::sample_u8,
+    );
+    to.save(
+        "sample_centered",
+        "value i32; answer i32",
+        &samples,
+        idct::sample_centered,
+    );
+
+    // Above this value + 2048 overflows, and the Rust has no answer.
+    let top = i64::MAX - 2_048;
+    let mut edges: Vec<i64> = (-2_060..=-2_040).collect();
+    edges.extend(-5..=5);
+    edges.extend(2_030..=2_060);
+    edges.extend(4_080..=4_110);
+    edges.extend(powers::<i64>());
+    edges.extend(top - 10..=top);
+    let mut values = numbers::<i64>(edges, 1_500);
+    values.retain(|&v| v <= top);
+    to.save(
+        "sample_12bit",
+        "value i64; answer u16",
+        &values,
+        idct::sample_12bit,
+    );
+}
+
+fn islow(to: &mut Answers) {
+    let rows = vectors::<i32>(1_200);
+    to.save(
+        "islow_1d",
+        "p [i32; 8]; answer [i32; 8]",
+        &rows,
+        idct::islow_1d,
+    );
+    to.save(
+        "islow_1d_4",
+        "p [i32; 8]; answer [i32; 4]",
+        &rows,
+        idct::islow_1d_4,
+    );
+    to.save(
+        "islow_1d_2",
+        "p [i32; 8]; answer [i32; 2]",
+        &rows,
+        idct::islow_1d_2,
+    );
+    to.save(
+        "islow_gain_bounds",
+        "answer max_gain i32, max_l1 i32",
+        &[[0u8; 0]],
+        |_| idct::islow_gain_bounds(),
+    );
+}
+
+fn islow_i64(to: &mut Answers) {
+    let rows = vectors::<i64>(1_200);
+    to.save(
+        "islow_1d_i64",
+        "p [i64; 8]; answer [i64; 8]",
+        &rows,
+        idct::islow_1d_i64,
+    );
+    to.save(
+        "islow_1d_4_i64",
+        "p [i64; 8]; answer [i64; 4]",
+        &rows,
+        idct::islow_1d_4_i64,
+    );
+    to.save(
+        "islow_1d_2_i64",
+        "p [i64; 8]; answer [i64; 2]",
+        &rows,
+        idct::islow_1d_2_i64,
+    );
+}
+
+fn passes(to: &mut Answers) {
+    let rows = pass_vectors(2_000);
+    let layout = "p [i32; 8]; answer [i32; 8]";
+    to.save("islow_pass1", layout, &rows, idct::islow_pass1);
+    to.save("islow_pass2", layout, &rows, idct::islow_pass2);
+    to.save("islow_column", layout, &rows, idct::islow_column);
+    to.save("islow_row", layout, &rows, idct::islow_row);
+}
+
+fn main() {
+    let mut args = std::env::args().skip(1);
+    let folder = PathBuf::from(args.next().expect("the folder for the answers"));
+    let lines = args.next().expect("the file for the lines");
+    let mut to = Answers {
+        folder,
+        lines: String::new(),
+    };
+    word(&mut to);
+    scaling(&mut to);
+    islow(&mut to);
+    islow_i64(&mut to);
+    passes(&mut to);
+    std::fs::write(lines, to.lines).expect("the lines are written");
+}
