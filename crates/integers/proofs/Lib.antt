@@ -8,3 +8,4 @@ pub mod Word
 pub mod Linear
 pub mod Bound
 pub mod Agree
+pub mod ZeroTest

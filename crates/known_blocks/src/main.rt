@@ -64,7 +64,7 @@ fn sample_12bit(value: i64) {
 }
 
 fn islow_gain_bounds() {
-    let got = islow::islow_gain_bounds();
+    let got = gains::islow_gain_bounds();
     text(b"islow_gain_bounds: ");
     number(got.max_gain);
     text(b" ");

@@ -22,7 +22,7 @@ pub fn islow_1d_2(case: &[u8; ROOM]) -> bool {
 }
 
 pub fn islow_gain_bounds(case: &[u8; ROOM]) -> bool {
-    let got = islow::islow_gain_bounds();
+    let got = gains::islow_gain_bounds();
     differs_i32(case, 0, got.max_gain) || differs_i32(case, 4, got.max_l1)
 }
 

@@ -1,0 +1,49 @@
+-- A test of several entries by one `|`: the bits of all together are 0 exactly when each entry is zero.
+-- Assumes nothing.
+use mathlib.Core.Path.{_≡_, refl, sym, _∙_}
+use mathlib.Core.Bool.{Bool, true, false, _&&_}
+use mathlib.Core.List.{List, [], _∷_}
+use Prim.Native.Nat.{ℕ, zero, suc, _*_, _^_, _<_}
+use native.Mathlib.Omega.{arith}
+use borrow.Author.Tests.{ne-eqb}
+use lib.Bits.{bitOr, or-add-and, and-le-r, or-zero-l}
+use lib.Dec.{eqb}
+use lib.ListN.{getD}
+use lib.IntN.{ℤ, pos, negsuc, natAbs}
+use lib.Signed.{mag}
+use mir.Syntax.{Width}
+use mir.Val.{bits, hbits, ofZ}
+use mir.ValLaws.{pow-bits}
+use Rattle.integers.specs.Linear.{zeroAt}
+
+-- n is 0 exactly when the entries ks of xs are zero
+pub record Tests (xs : List ℤ) (n : ℕ) (ks : List ℕ) : Type 0 where
+  pub is : eqb n 0 ≡ zeroAt ks xs
+
+or-eqb : (a b : ℕ) → eqb (bitOr a b) 0 ≡ eqb a 0 && eqb b 0
+or-eqb zero b = rw (or-zero-l b)
+or-eqb (suc a) b =
+    let below = and-le-r (suc a) b in
+    let sum = or-add-and (suc a) b in
+    rw (ne-eqb (bitOr (suc a) b) 0 (λ e. omega arith), ne-eqb (suc a) 0 (λ e. omega arith))
+
+module _ (w : Width) where
+  zero-bits : (z : ℤ) → mag z < 2 ^ hbits w → eqb (ofZ w z) 0 ≡ eqb (natAbs z) 0
+  zero-bits (pos n) h = refl
+  zero-bits (negsuc n) h =
+      let p : 2 ^ bits w ≡ 2 ^ hbits w * 2 = pow-bits w in
+      ne-eqb (ofZ w (negsuc n)) 0 (λ e. omega arith) ∙ sym (ne-eqb (suc n) 0 (λ e. omega arith))
+
+  and-true : (t : Bool) → t ≡ t && true
+  and-true true = refl
+  and-true false = refl
+
+  module _ {xs : List ℤ} (k : ℕ) (f : mag (getD xs k (pos 0)) < 2 ^ hbits w) where
+    -- entry k alone, and in front of others
+    pub last-zero : Tests xs (ofZ w (getD xs k (pos 0))) (k ∷ [])
+    unfolding zeroAt
+    last-zero = record { is = zero-bits (getD xs k (pos 0)) f ∙ and-true _ }
+
+    pub also-zero : {n : ℕ} {ks : List ℕ} → Tests xs n ks → Tests xs (bitOr (ofZ w (getD xs k (pos 0))) n) (k ∷ ks)
+    unfolding zeroAt
+    also-zero {n} t = record { is = or-eqb (ofZ w (getD xs k (pos 0))) n ∙ (λ i. zero-bits (getD xs k (pos 0)) f i && t .is i) }
