@@ -1,0 +1,3 @@
+pub mod Unread
+pub mod Column
+pub mod Exact

@@ -1,0 +1,48 @@
+-- Document 01, "The inverse blocks". A block is 64 numbers in natural order: index 8v + u for frequencies, 8y + x for samples.
+-- "Columns first, then rows": a pass over each column, a pass over each row of what they give, and the clamp of each number.
+use mathlib.Core.Bool.{cond}
+use mathlib.Core.List.{List, []}
+use Prim.Native.Nat.{ℕ, _+_, _*_, _/_, _%_}
+use lib.Dec.{eqb, ltb}
+use lib.ListN.{length, getD}
+use lib.IntN.{ℤ, pos}
+use mir.Syntax.{w64}
+use Rattle.lists.specs.Tab.{tab}
+use Rattle.scaling.specs.Scaling.{sampleU8, sample12bit}
+use Rattle.passes.specs.Passes.{Size, pass, columnPass, rowPass}
+
+-- column u of a block, from top to bottom
+unfoldable pub columnOf : List ℤ → ℕ → List ℤ
+columnOf xs u = tab 8 (λ v. getD xs (8 * v + u) (pos 0))
+
+-- the eight columns after their pass
+unfoldable pub columns : (List ℤ → List ℤ) → List ℤ → List (List ℤ)
+columns column xs = tab 8 (λ u. column (columnOf xs u))
+
+-- row y of what is given by its columns
+unfoldable pub rowOf : List (List ℤ) → ℕ → List ℤ
+rowOf cols y = tab 8 (λ u. getD (getD cols u []) y (pos 0))
+
+-- n·n samples, row by row: sample x of row y is the clamp of number x of the pass over row y
+unfoldable pub samples : (List ℤ → List ℤ) → (List ℤ → List ℤ) → (ℤ → ℕ) → ℕ → List ℤ → List ℕ
+samples column row clamp n xs = tab (n * n) (λ i. clamp (getD (row (rowOf (columns column xs) (i / n))) (i % n) (pos 0)))
+
+-- the 8-bit block of a size
+unfoldable pub block : Size → List ℤ → List ℕ
+block z xs = samples (columnPass z) (rowPass z) sampleU8 (z .side) xs
+
+-- the block with the rows from n on treated as zero
+unfoldable pub firstRows : ℕ → List ℤ → List ℤ
+firstRows n xs = tab 64 (λ i. cond (ltb (i / 8) n) (getD xs i (pos 0)) (pos 0))
+
+-- "12-bit has no shortcut: shifts 12 and 17, one and two more for 4×4 and 2×2, scaled down at 64 bits, then `sample_12bit`"
+unfoldable pub block12bit : Size → List ℤ → List ℕ
+block12bit z xs = samples (pass w64 (z .matrix) (12 + z .extra)) (pass w64 (z .matrix) (17 + z .extra)) sample12bit (z .side) xs
+
+-- "Refusing calls", transforms: 1, an input block not of its 64 places; 3, an output of the wrong length, here not of n
+unfoldable pub status : ℕ → List ℤ → List ℕ → ℕ
+status n xs out = cond (eqb (length xs) 64) (cond (eqb (length out) n) 0 3) 1
+
+-- what the output holds after the call: the result, or, where the call is refused, what it held before
+unfoldable pub after : ℕ → (List ℤ → List ℕ) → List ℤ → List ℕ → List ℕ
+after n result xs out = cond (eqb (length xs) 64) (cond (eqb (length out) n) (result xs) out) out

@@ -1,0 +1,1 @@
+// What the inverse blocks share: definitions in specs/, their laws in proofs/.
