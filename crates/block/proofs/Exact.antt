@@ -24,7 +24,8 @@ use Rattle.gains.specs.Gains.{mirror, mirrored, upper, gains, upper4, gains4, u
 use Rattle.scaling.specs.Scaling.{descaled, sample12bit}
 use Rattle.scaling.proofs.Rounding.{descaled-exact}
 use Rattle.passes.specs.Passes.{Size, eight, four, two, pass}
-use Rattle.block.specs.Block.{columnOf, columns, rowOf, samples, block12bit}
+use Rattle.block.specs.Bound.{AtMost}
+use Rattle.block.specs.Block.{columnOf, columns, rowOf, rowSamples, samples, block12bit}
 
 -- the exact sums, each rounded and scaled down by s bits
 unfoldable pub exactPass : List (List ℤ) → ℕ → List ℤ → List ℤ
@@ -67,11 +68,7 @@ module _ (p : List ℤ) (B : ℕ) (h : (k : ℕ) → natAbs (getD p k (pos 0)) �
 
 -- ---- the blocks
 
--- no entry is larger than B in size
-abbrev pub AtMost : ℕ → List ℤ → Type 0
-AtMost B p = (k : ℕ) → natAbs (getD p k (pos 0)) ≤ B
-
-tab-at-most : (B n : ℕ) (f : ℕ → ℤ) → ((k : ℕ) → k < n → natAbs (f k) ≤ B) → AtMost B (tab n f)
+pub tab-at-most : (B n : ℕ) (f : ℕ → ℤ) → ((k : ℕ) → k < n → natAbs (f k) ≤ B) → AtMost B (tab n f)
 tab-at-most B n f h k = go (decLt k n)
   where
     go : Dec (k < n) → natAbs (getD (tab n f) k (pos 0)) ≤ B
@@ -91,7 +88,7 @@ row-at-most B column xs h y = tab-at-most B 8 _ (λ u b. rw (getD-tab 8 (λ u. c
 -- passes that agree on what they are given make the same block
 pub samples-cong : (column row column′ row′ : List ℤ → List ℤ) (xs : List ℤ) → ((u : ℕ) → column (columnOf xs u) ≡ column′ (columnOf xs u)) →
     ((y : ℕ) → row (rowOf (columns column′ xs) y) ≡ row′ (rowOf (columns column′ xs) y)) → (clamp : ℤ → ℕ) (n : ℕ) → samples column row clamp n xs ≡ samples column′ row′ clamp n xs
-unfolding samples columns
+unfolding samples rowSamples columns
 samples-cong column row column′ row′ xs c r clamp n =
     tab-ext (n * n) _ _ (λ i b. ap (λ (p : List ℤ). clamp (getD p (i % n) (pos 0)))
     (ap (λ (cols : List (List ℤ)). row (rowOf cols (i / n))) (tab-ext 8 _ _ (λ u b. c u)) ∙ r (i / n)))

@@ -1,3 +1,7 @@
 pub mod Unread
 pub mod Column
 pub mod Exact
+pub mod Load
+pub mod Store
+pub mod Rows
+pub mod Entry

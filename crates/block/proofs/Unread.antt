@@ -21,7 +21,7 @@ use Rattle.gains.specs.Gains.{mirror, mirrored, upper, gains, upper4, gains4, s
 use Rattle.gains.proofs.Unread.{AgreeBut}
 use Rattle.scaling.specs.Scaling.{descaled}
 use Rattle.passes.specs.Passes.{Size, eight, four, two, dc, pass, columnPass, rowPass}
-use Rattle.block.specs.Block.{columnOf, columns, rowOf, samples, block, firstRows, block12bit}
+use Rattle.block.specs.Block.{columnOf, columns, rowOf, rowSamples, samples, block, firstRows, block12bit}
 
 -- f gives the same on inputs that agree but for the entries ks
 abbrev Ignores : List ℕ → (List ℤ → List ℤ) → Type 0
@@ -84,7 +84,7 @@ module _ (ks : List ℕ) (column row : List ℤ → List ℤ) (c : Ignores ks co
       ap (λ (p : List ℤ). getD p y (pos 0)) (getD-tab 8 (λ u. column (columnOf xs u)) [] u b ∙ e ∙ sym (getD-tab 8 (λ u. column (columnOf ys u)) [] u b))
 
   samples-agree : (clamp : ℤ → ℕ) (n : ℕ) (xs ys : List ℤ) → AgreeOff ks xs ys → samples column row clamp n xs ≡ samples column row clamp n ys
-  unfolding samples rowOf
+  unfolding samples rowSamples rowOf
   samples-agree clamp n xs ys h =
       tab-ext (n * n) _ _ (λ i b. ap (λ (p : List ℤ). clamp (getD p (i % n) (pos 0))) (r _ _ (tab-agree ks 8 _ _ (columns-agree xs ys h (i / n)))))
 

@@ -6,12 +6,13 @@ use mathlib.Core.Bool.{Bool, true, false}
 use Prim.Native.Nat.{ℕ, zero, suc, _+_, _-_, _*_, _/_, _%_, _^_, _<_, _≤_}
 use native.Mathlib.Nat.{mod-lt, div-add-mod', mul-le-mul-left, mul-lt-mul-of-pos-right, le-of-lt, lt-of-le-of-lt}
 use native.Mathlib.Omega.{arith}
-use lib.Dec.{T, leb·zero}
+use lib.Dec.{T, leb, leb·zero}
 use lib.IntN.{ℤ, pos, negsuc, natAbs, _+ℤ_, _-ℤ_, _*ℤ_, -ℤ-one, +ℤ-comm}
 use lib.Pow.{pow-pos, pow-add}
 use lib.Signed.{leZ, nonNeg}
 use mir.Syntax.{Width}
 use mir.Val.{Fits, SFits, bits, hbits, toZ, ofZ}
+use mir.Facts.{sfits-widen}
 use mir.ValLaws.{toZ-ofZ, toZ-neg, toZ-pos, half-full, pow-bits}
 use Rattle.integers.specs.Wrap.{modulo, wrap}
 use Rattle.integers.proofs.Difference.{dif-eq, differences}
@@ -128,3 +129,12 @@ halves h x y p {cross} {r} ec er =
     let low : Congruent (h * h) (pos ((cross * h) % (h * h) + l)) (pos (x * y)) =
     then (plus (then (remainder (cross * h)) (times high (itself (pos h)))) (itself (pos l))) (inverse (record { multiple = pos (x / h * (y / h)); is = ap pos whole })) in
     modulo-unique p (rw er (mod-lt _ p)) (then (equal (ap pos er)) (then (remainder _) low))
+
+-- ---- `x as i32` of a narrower x, from v to w
+
+module _ (v w : Width) {x : ℤ} (wider : T (leb (hbits v) (hbits w))) (f : SFits v x) where
+  pub widens : SFits w (toZ v (ofZ v x))
+  widens = rw (toZ-ofZ v x f) (sfits-widen wider f)
+
+  pub widened : toZ w (ofZ w (toZ v (ofZ v x))) ≡ x
+  widened = toZ-ofZ w _ widens ∙ toZ-ofZ v x f

@@ -2,13 +2,16 @@
 -- Assumes nothing.
 use Prim.Native.Nat.{ℕ, zero, suc, _+_, _≤_, _<_}
 use mathlib.Core.Path.{_≡_, refl, sym, ap, _∙_}
-use mathlib.Core.List.{List, [], _∷_, _++_, map}
+use mathlib.Core.Bool.{Bool, true, false}
+use mathlib.Core.List.{List, [], _∷_, _++_, map, append-assoc, append-nil}
 use native.Mathlib.Decide.{decLt}
-use native.Mathlib.Nat.{le-of-lt}
+use native.Mathlib.Nat.{le-of-lt, add-zero, add-suc}
 use native.Mathlib.Numerals.{add-one}
 use native.Mathlib.Omega.{arith}
+use borrow.Author.Tests.{eqb-true, eqb-false}
+use lib.Dec.{eqb}
 use lib.ListN.{length, take, set, getD, length-set, length-append, List·getD-append}
-use lib.Seq.{take-all, take-suc, take-suc-set, getD-at, ext-getD}
+use lib.Seq.{take-all, take-suc, take-suc-set, getD-at, ext-getD, getD-set-same, getD-set-other, getD-drop, paste, length-paste, take-paste, drop-paste}
 use Rattle.lists.specs.Tab.{tab}
 
 -- l has n elements, of which the first k are f's
@@ -82,3 +85,35 @@ map-tab {B = B} f g (suc n) = map-snoc f (tab n g) (g n) ∙ ap (λ (t : List B)
 
 pub map-getD : {A B : Type 0} (f : A → B) (d : A) (l : List A) (n : ℕ) → length l ≡ n → tab n (λ i. f (getD l i d)) ≡ map f l
 map-getD f d l n e = sym (map-tab f (λ i. getD l i d) n) ∙ ap (map f) (tab-getD d l n e)
+
+-- ---- stores
+
+-- one element replaced
+pub set-tab : {A : Type 0} (n : ℕ) (f g : ℕ → A) (k : ℕ) (v : A) → k < n → v ≡ g k → ((j : ℕ) → j < n → (j ≡ k → ⊥) → f j ≡ g j) → set (tab n f) k v ≡ tab n g
+set-tab n f g k v h e o = by-elements n g v (set (tab n f) k v) (length-set (tab n f) k v ∙ length-tab n f) (λ j b. go j b (eqb j k) refl)
+  where
+    go : (j : ℕ) → j < n → (t : Bool) → eqb j k ≡ t → getD (set (tab n f) k v) j v ≡ g j
+    go j b true q = let i : j ≡ k = eqb-true j k q in rw i (getD-set-same (tab n f) k v v (omega (arith, length-tab n f)) ∙ e)
+    go j b false q = let i : j ≡ k → ⊥ = eqb-false j k q in getD-set-other (tab n f) k j v v i ∙ getD-tab n f v j b ∙ o j b i
+
+-- a run of elements that follow those already there
+pub tab-append : {A : Type 0} (f : ℕ → A) (k n : ℕ) → tab k f ++ tab n (λ j. f (k + j)) ≡ tab (k + n) f
+unfolding tab
+tab-append f k zero = append-nil (tab k f) ∙ ap (λ (m : ℕ). tab m f) (sym (add-zero k))
+tab-append f k (suc n) =
+    sym (append-assoc (tab k f) (tab n (λ j. f (k + j))) (f (k + n) ∷ [])) ∙ ap (λ (l : List _). l ++ (f (k + n) ∷ [])) (tab-append f k n)
+    ∙ ap (λ (m : ℕ). tab m f) (sym (add-suc k n))
+
+pub filled-paste : {A : Type 0} (f : ℕ → A) (m k : ℕ) (l ys : List A) (n : ℕ) → Filled f m k l → k + n ≤ m → ys ≡ tab n (λ j. f (k + j)) → Filled f m (k + n) (paste l k ys n)
+filled-paste f m k l ys n h b e =
+    let long : length ys ≡ n = ap length e ∙ length-tab n (λ j. f (k + j)) in
+    let at : k ≤ length l = omega (arith, h .long) in
+    record {
+      long = length-paste l k ys n (omega (arith, h .long)) (omega arith) ∙ h .long;
+      front = take-paste l k ys n at (omega arith) ∙ (λ i. h .front i ++ (take-all n ys (omega arith) ∙ e) i) ∙ tab-append f k n;
+    }
+
+-- what a run of stores has not reached yet
+pub getD-paste : {A : Type 0} (d : A) (l ys : List A) (at n i : ℕ) → at ≤ length l → n ≤ length ys → getD (paste l at ys n) (at + n + i) d ≡ getD l (at + n + i) d
+getD-paste d l ys at n i h b =
+    sym (getD-drop (at + n) (paste l at ys n) i d) ∙ ap (λ (t : List _). getD t i d) (drop-paste l at ys n h b) ∙ getD-drop (at + n) l i d
