@@ -13,7 +13,8 @@ use mir.ValLaws.{toZ-ofZ}
 use Rattle.integers.specs.Wrap.{wrap}
 use Rattle.integers.specs.Linear.{dot}
 use Rattle.integers.proofs.Ring.{ring, negℤ-*ℤ}
-use Rattle.integers.proofs.Wrap.{wrap-fits, wrap-id, wrap-+, wrap--, wrap-*}
+use Rattle.integers.proofs.Congruence.{equal, itself, then, plus, times}
+use Rattle.integers.proofs.Wrap.{wrap-fits, wrap-congruent, wrap-cong, wrap-id, wrap-+, wrap--, wrap-*}
 
 infixl 6 _⊕_ _⊖_
 abbrev pub _⊕_ : List ℤ → List ℤ → List ℤ
@@ -85,6 +86,10 @@ module _ (w : Width) where
   abbrev pub mul : ℤ → ℤ → ℤ
   mul x k = wrap w (toZ w (ofZ w x) *ℤ k)
 
+  -- a sum of two products
+  abbrev pub mul2 : ℤ → ℤ → ℤ → ℤ → ℤ
+  mul2 x j y k = wrap w (toZ w (ofZ w x) *ℤ j +ℤ toZ w (ofZ w y) *ℤ k)
+
 module _ {w : Width} {xs : List ℤ} where
   pub lin-read : {u : List ℤ} {x : ℤ} → Lin w xs u x → toZ w (ofZ w x) ≡ wrap w (dot u xs)
   lin-read {u} l = ap (λ (t : ℤ). toZ w (ofZ w t)) (l .is) ∙ toZ-ofZ w (wrap w (dot u xs)) (wrap-fits w (dot u xs))
@@ -103,3 +108,9 @@ module _ {w : Width} {xs : List ℤ} where
   pub lin-mul : {u : List ℤ} {x r : ℤ} (k : ℤ) → Lin w xs u x → r ≡ mul w x k → Lin w xs (k ⊙ u) r
   lin-mul {u} k l e =
       record { is = e ∙ ap (λ (t : ℤ). wrap w (t *ℤ k)) (lin-read l) ∙ wrap-* w (dot u xs) k ∙ ap (wrap w) (*ℤ-comm (dot u xs) k ∙ sym (dot-⊙ k u xs)) }
+
+  pub lin-mul2 : {u v : List ℤ} {x y r : ℤ} (j k : ℤ) → Lin w xs u x → Lin w xs v y → r ≡ mul2 w x j y k → Lin w xs (j ⊙ u ⊕ k ⊙ v) r
+  lin-mul2 {u} {v} j k l m e =
+      let first = then (times (wrap-congruent w (dot u xs)) (itself j)) (equal (*ℤ-comm (dot u xs) j ∙ sym (dot-⊙ j u xs))) in
+      let second = then (times (wrap-congruent w (dot v xs)) (itself k)) (equal (*ℤ-comm (dot v xs) k ∙ sym (dot-⊙ k v xs))) in
+      record { is = e ∙ (λ i. wrap w (lin-read l i *ℤ j +ℤ lin-read m i *ℤ k)) ∙ wrap-cong w (then (plus first second) (equal (sym (dot-⊕ (j ⊙ u) (k ⊙ v) xs)))) }

@@ -25,7 +25,8 @@ pub const DC_SHIFT: u32 = (PASS1_BITS + 3) as u32;
 // What the column pass's zero shortcut multiplies by: 2^PASS1_BITS.
 const DC_GAIN: i32 = 1 << PASS1_BITS;
 
-fn descale_8(values: [i32; 8], shift: u32) -> [i32; 8]
+// Each of eight values scaled down.
+pub fn descale_8(values: [i32; 8], shift: u32) -> [i32; 8]
     requires { ⌜ (1 ≤ shift) × (shift ≤ 31) ⌝ }
     ensures { λ r. ⌜ r ≡ map (λ v. descaled w32 v shift) values ⌝ }
 {
