@@ -21,12 +21,15 @@ use Rattle.integers.proofs.Wrap.{wrap-id}
 use Rattle.integers.proofs.Floor.{floor-unique}
 use Rattle.integers.proofs.Bound.{mag-le}
 use Rattle.integers.proofs.Agree.{zero-entry, transform-agree}
+use Rattle.lists.proofs.Tab.{length-tab, tab-ext}
 use Rattle.lists.proofs.Below.{below, below-at}
 use Rattle.gains.specs.Gains.{mirror, mirrored, upper, gains, upper4, gains4, skipped4, upper2, gains2, skipped2}
 use Rattle.gains.proofs.Unread.{AgreeBut}
 use Rattle.scaling.specs.Scaling.{descaled}
 use Rattle.scaling.proofs.Rounding.{descaled-exact}
 use Rattle.passes.specs.Passes.{Size, eight, four, two, dc, pass, columnPass}
+use Rattle.block.specs.Bound.{AtMost}
+use Rattle.block.specs.Block.{columnOf, columns}
 
 fits : (z : ℤ) → natAbs z < 2 ^ 31 → SFits w32 z
 fits z h = record { sfits = lt-of-le-of-lt (mag-le z) h }
@@ -88,3 +91,8 @@ column-four = column-full four skipped4 tt tt (λ a m. ap (replicate 4) (solo-en
 pub column-two : (p : List ℤ) → length p ≡ 8 → natAbs (dc p) ≤ 2 ^ 15 → pass w32 gains2 13 p ≡ columnPass two p
 unfolding pass transform dot two zeroAt listed blank below mirror mirrored upper2 gains2
 column-two = column-full two skipped2 tt tt (λ a m. ap (replicate 2) (solo-entry 13 (lit≤ tt) (lit≤ tt) a m))
+
+-- the columns of a block of 16-bit numbers
+pub columns-eight : (xs : List ℤ) → ((u : ℕ) → u < 8 → AtMost (2 ^ 15) (columnOf xs u)) → columns (pass w32 gains 11) xs ≡ columns (columnPass eight) xs
+unfolding columns columnOf
+columns-eight xs h = tab-ext 8 _ _ (λ u b. column-eight (columnOf xs u) (length-tab 8 _) (h u b 0))

@@ -1,6 +1,6 @@
 -- A loop over rows, each stored as n samples: what one turn adds, over the pass, the clamp and n.
 -- Assumes nothing.
-use mathlib.Core.Path.{_≡_, refl, sym, ap, _∙_}
+use mathlib.Core.Path.{_≡_, refl, sym, ap, _∙_, subst}
 use mathlib.Core.Bool.{Bool, true, false, cond}
 use mathlib.Core.List.{List, [], _∷_, map}
 use Prim.Native.Nat.{ℕ, suc, _+_, _*_, _/_, _%_, _<_, _≤_}
@@ -45,11 +45,32 @@ module _ (row : List ℤ → List ℤ) (clamp : ℤ → ℕ) (n : ℕ) (cols : L
       sym (map-getD clamp (pos 0) q n l) ∙ tab-ext n _ _ (λ j c. (λ i. clamp (getD (e i) j (pos 0))) ∙ (λ i. clamp (getD (row (rowOf cols (sym (digits-div y c) i))) (sym (digits-mod y c) i) (pos 0)))) in
       rw l (same sampleAt (n * n) (y * n + n) ((y + 1) * n) _ (filled-paste sampleAt (n * n) (y * n) out (map clamp q) n h (omega arith) run) next)
 
+  -- the same of what a call left
+  pub rows-next : (y : ℕ) (out : List ℕ) {left : List ℕ} → Stored y out → y < n → length (row (rowOf cols y)) ≡ n →
+      left ≡ paste out (y * n) (map clamp (row (rowOf cols y))) n → Stored (y + 1) left
+  rows-next y out h b l e =
+      subst (Stored (y + 1)) (sym (e ∙ ap (paste out (y * n) (map clamp (row (rowOf cols y)))) (sym l))) (rows-more y out (row (rowOf cols y)) h b refl l)
+
   pub rows-all : (y : ℕ) (out : List ℕ) → Stored y out → n ≤ y → y ≤ n → out ≡ rowSamples row clamp n cols
   unfolding rowSamples
   rows-all y out h a b =
       let e : y ≡ n = omega arith in
       all sampleAt (n * n) (n * n) out (same sampleAt (n * n) (y * n) (n * n) out h (ap (λ (m : ℕ). m * n) e)) (omega arith) (omega arith)
+
+-- a row by the zero test t, at any size
+module _ (z : Size) (p : List ℤ) {t : Bool} (e : t ≡ zeroAt (z .ac) p) where
+  pub row-zero : {x : ℤ} → t ≡ true → x ≡ descaled w32 (dc p) 5 → replicate (z .side) x ≡ rowPass z p
+  unfolding rowPass
+  row-zero h f = simp (sym e ∙ h) (ap (replicate (z .side)) f)
+
+  pub row-full : {q : List ℤ} → t ≡ false → q ≡ pass w32 (z .matrix) (18 + z .extra) p → q ≡ rowPass z p
+  unfolding rowPass
+  row-full h f = simp (sym e ∙ h) f
+
+-- what a store of a row's samples left, for the row that they are of
+pub stored-row : (clamp : ℤ → ℕ) (out : List ℕ) (at n : ℕ) {q r : List ℤ} {left : List ℕ} → q ≡ r → length r ≡ n →
+    left ≡ paste out at (map clamp q) (length q) → left ≡ paste out at (map clamp r) n
+stored-row clamp out at n e l s = s ∙ (λ i. paste out at (map clamp (e i)) ((ap length e ∙ l) i))
 
 -- a pass gives a number for each row of gains, and a row of a size as many as the size's side
 pub length-pass : (w : Width) (rows : List (List ℤ)) (s : ℕ) (p : List ℤ) → length (pass w rows s p) ≡ length rows

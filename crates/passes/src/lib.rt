@@ -54,7 +54,7 @@ pub fn islow_pass2(p: [i32; 8]) -> [i32; 8]
 }
 
 // Whether entries 1..7 are zero. One test of their bits together: no branch for each.
-fn ac_is_zero(p: &[i32; 8]) -> bool
+pub fn ac_is_zero(p: &[i32; 8]) -> bool
     ensures { λ r. ⌜ r ≡ zeroAt (eight .ac) (now (p .entry)) ⌝ }
 {
     (p[1] | (p[2] | (p[3] | (p[4] | (p[5] | (p[6] | p[7])))))) == 0
