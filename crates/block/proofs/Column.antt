@@ -10,8 +10,7 @@ use native.Mathlib.Omega.{arith}
 use lib.Dec.{T, eqb, eqb·suc-zero, lit≤}
 use lib.ListN.{length, getD, replicate, List·getD-eq-default}
 use lib.Pow.{pow-mono, pow-lt}
-use lib.IntN.{ℤ, pos, negsuc, natAbs, _+ℤ_, _*ℤ_, +ℤ-idr}
-use lib.Signed.{mag}
+use lib.IntN.{ℤ, pos, natAbs, _+ℤ_, _*ℤ_, +ℤ-idr}
 use mir.Syntax.{w32}
 use mir.Val.{SFits}
 use Rattle.integers.specs.Wrap.{wrap}
@@ -29,23 +28,19 @@ use Rattle.scaling.specs.Scaling.{descaled}
 use Rattle.scaling.proofs.Rounding.{descaled-exact}
 use Rattle.passes.specs.Passes.{Size, eight, four, two, dc, pass, columnPass}
 
-abs-le : (a : ℤ) (n : ℕ) → mag a < n → natAbs a ≤ n
-abs-le (pos k) n h = omega arith
-abs-le (negsuc k) n h = omega arith
-
 fits : (z : ℤ) → natAbs z < 2 ^ 31 → SFits w32 z
 fits z h = record { sfits = lt-of-le-of-lt (mag-le z) h }
 
 -- 4·2^s·a, rounded and scaled down by s bits, is 4·a
-scaled : (s : ℕ) → 1 ≤ s → s ≤ 13 → (a : ℤ) → mag a < 2 ^ 15 → descaled w32 (wrap w32 (pos (4 * 2 ^ s) *ℤ a)) s ≡ wrap w32 (pos 4 *ℤ a)
+scaled : (s : ℕ) → 1 ≤ s → s ≤ 13 → (a : ℤ) → natAbs a ≤ 2 ^ 15 → descaled w32 (wrap w32 (pos (4 * 2 ^ s) *ℤ a)) s ≡ wrap w32 (pos 4 *ℤ a)
 scaled s l h a m =
     let n : ℕ = 2 ^ s in
     let small : n ≤ 8192 = pow-mono h in
     let half : 2 ^ (s - 1) < n = pow-lt (omega arith) in
     let wide : 4 * n ≤ 4 * 8192 = omega arith in
-    let size : natAbs (pos (4 * n) *ℤ a) ≤ 4 * 8192 * 2 ^ 15 = rw (natAbs-* (pos (4 * n)) a) (mul-le-mul wide (abs-le a (2 ^ 15) m)) in
+    let size : natAbs (pos (4 * n) *ℤ a) ≤ 4 * 8192 * 2 ^ 15 = rw (natAbs-* (pos (4 * n)) a) (mul-le-mul wide m) in
     let sum = natAbs-+ (pos (4 * n) *ℤ a) (pos (2 ^ (s - 1))) in
-    let four : natAbs (pos 4 *ℤ a) ≤ 4 * 2 ^ 15 = rw (natAbs-* (pos 4) a) (omega (arith, abs-le a (2 ^ 15) m)) in
+    let four : natAbs (pos 4 *ℤ a) ≤ 4 * 2 ^ 15 = rw (natAbs-* (pos 4) a) (omega arith) in
     let regroup : pos (4 * n) *ℤ a ≡ (pos 4 *ℤ a) *ℤ pos n = simp ring in
     ap (λ (z : ℤ). descaled w32 z s) (wrap-id w32 _ (fits _ (omega arith)))
     ∙ descaled-exact w32 _ s (fits _ (omega arith))
@@ -56,7 +51,7 @@ scaled s l h a m =
 -- what a size must be: every entry besides p0 is skipped or tested, and a column of p0 alone gives 4·p0
 module _ (z : Size) (ks : List ℕ) (b : T (blank ks (z .matrix)))
     (covered : T (below 8 (λ k. eqb k 0 || (listed ks k || listed (z .ac) k))))
-    (solo : (a : ℤ) → mag a < 2 ^ 15 → pass w32 (z .matrix) (11 + z .extra) (a ∷ []) ≡ replicate (z .side) (wrap w32 (pos 4 *ℤ a))) where
+    (solo : (a : ℤ) → natAbs a ≤ 2 ^ 15 → pass w32 (z .matrix) (11 + z .extra) (a ∷ []) ≡ replicate (z .side) (wrap w32 (pos 4 *ℤ a))) where
   tested : (k : ℕ) → suc k < 8 → listed ks (suc k) ≡ false → T (listed (z .ac) (suc k))
   tested k h e = rw (eqb·suc-zero k, e) at (below-at 8 (λ k. eqb k 0 || (listed ks k || listed (z .ac) k)) covered (suc k) h)
 
@@ -68,28 +63,28 @@ module _ (z : Size) (ks : List ℕ) (b : T (blank ks (z .matrix)))
       go (yes h) = zero-entry (z .ac) p t (suc k) (tested k h e)
       go (no h) = List·getD-eq-default p (pos 0) (omega arith)
 
-  full : (p : List ℤ) → length p ≡ 8 → mag (dc p) < 2 ^ 15 → (t : Bool) → zeroAt (z .ac) p ≡ t →
+  full : (p : List ℤ) → length p ≡ 8 → natAbs (dc p) ≤ 2 ^ 15 → (t : Bool) → zeroAt (z .ac) p ≡ t →
       pass w32 (z .matrix) (11 + z .extra) p ≡ cond t (replicate (z .side) (wrap w32 (pos 4 *ℤ dc p))) (pass w32 (z .matrix) (11 + z .extra) p)
   unfolding pass
   full p l m true e =
       ap (map (λ (v : ℤ). descaled w32 v (11 + z .extra))) (transform-agree ks p (dc p ∷ []) (alone p l (subst T (sym e) tt)) w32 (z .matrix) b) ∙ solo (dc p) m
   full p l m false e = refl
 
-  pub column-full : (p : List ℤ) → length p ≡ 8 → mag (dc p) < 2 ^ 15 → pass w32 (z .matrix) (11 + z .extra) p ≡ columnPass z p
+  pub column-full : (p : List ℤ) → length p ≡ 8 → natAbs (dc p) ≤ 2 ^ 15 → pass w32 (z .matrix) (11 + z .extra) p ≡ columnPass z p
   unfolding columnPass
   column-full p l m = full p l m (zeroAt (z .ac) p) refl
 
-solo-entry : (s : ℕ) → 1 ≤ s → s ≤ 13 → (a : ℤ) → mag a < 2 ^ 15 → descaled w32 (wrap w32 (pos (4 * 2 ^ s) *ℤ a +ℤ pos 0)) s ≡ wrap w32 (pos 4 *ℤ a)
+solo-entry : (s : ℕ) → 1 ≤ s → s ≤ 13 → (a : ℤ) → natAbs a ≤ 2 ^ 15 → descaled w32 (wrap w32 (pos (4 * 2 ^ s) *ℤ a +ℤ pos 0)) s ≡ wrap w32 (pos 4 *ℤ a)
 solo-entry s l h a m = ap (λ (x : ℤ). descaled w32 (wrap w32 x) s) (+ℤ-idr (pos (4 * 2 ^ s) *ℤ a)) ∙ scaled s l h a m
 
-pub column-eight : (p : List ℤ) → length p ≡ 8 → mag (dc p) < 2 ^ 15 → pass w32 gains 11 p ≡ columnPass eight p
+pub column-eight : (p : List ℤ) → length p ≡ 8 → natAbs (dc p) ≤ 2 ^ 15 → pass w32 gains 11 p ≡ columnPass eight p
 unfolding pass transform dot eight zeroAt listed blank below mirror mirrored upper gains
 column-eight = column-full eight [] tt tt (λ a m. ap (replicate 8) (solo-entry 11 (lit≤ tt) (lit≤ tt) a m))
 
-pub column-four : (p : List ℤ) → length p ≡ 8 → mag (dc p) < 2 ^ 15 → pass w32 gains4 12 p ≡ columnPass four p
+pub column-four : (p : List ℤ) → length p ≡ 8 → natAbs (dc p) ≤ 2 ^ 15 → pass w32 gains4 12 p ≡ columnPass four p
 unfolding pass transform dot four zeroAt listed blank below mirror mirrored upper4 gains4
 column-four = column-full four skipped4 tt tt (λ a m. ap (replicate 4) (solo-entry 12 (lit≤ tt) (lit≤ tt) a m))
 
-pub column-two : (p : List ℤ) → length p ≡ 8 → mag (dc p) < 2 ^ 15 → pass w32 gains2 13 p ≡ columnPass two p
+pub column-two : (p : List ℤ) → length p ≡ 8 → natAbs (dc p) ≤ 2 ^ 15 → pass w32 gains2 13 p ≡ columnPass two p
 unfolding pass transform dot two zeroAt listed blank below mirror mirrored upper2 gains2
 column-two = column-full two skipped2 tt tt (λ a m. ap (replicate 2) (solo-entry 13 (lit≤ tt) (lit≤ tt) a m))
