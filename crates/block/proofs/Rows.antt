@@ -16,9 +16,9 @@ use mir.Syntax.{Width, w32}
 use Rattle.integers.specs.Linear.{transform, zeroAt}
 use Rattle.lists.specs.Tab.{tab}
 use Rattle.lists.proofs.Tab.{Filled, none, all, same, tab-ext, tab-getD, map-getD, filled-paste}
-use Rattle.scaling.specs.Scaling.{descaled}
-use Rattle.passes.specs.Passes.{Size, pass, dc, rowPass}
-use Rattle.block.specs.Block.{rowOf, rowSamples, firstRows}
+use Rattle.scaling.specs.Scaling.{descaled, sampleU8}
+use Rattle.passes.specs.Passes.{Size, pass, dc, columnPass, rowPass}
+use Rattle.block.specs.Block.{columns, rowOf, rowSamples, samples, block, firstRows}
 
 -- all rows of a block that is read whole
 pub first-all : (xs : List ℤ) → length xs ≡ 64 → firstRows 8 xs ≡ xs
@@ -45,12 +45,6 @@ module _ (row : List ℤ → List ℤ) (clamp : ℤ → ℕ) (n : ℕ) (cols : L
       sym (map-getD clamp (pos 0) q n l) ∙ tab-ext n _ _ (λ j c. (λ i. clamp (getD (e i) j (pos 0))) ∙ (λ i. clamp (getD (row (rowOf cols (sym (digits-div y c) i))) (sym (digits-mod y c) i) (pos 0)))) in
       rw l (same sampleAt (n * n) (y * n + n) ((y + 1) * n) _ (filled-paste sampleAt (n * n) (y * n) out (map clamp q) n h (omega arith) run) next)
 
-  -- the same of what a call left
-  pub rows-next : (y : ℕ) (out : List ℕ) {left : List ℕ} → Stored y out → y < n → length (row (rowOf cols y)) ≡ n →
-      left ≡ paste out (y * n) (map clamp (row (rowOf cols y))) n → Stored (y + 1) left
-  rows-next y out h b l e =
-      subst (Stored (y + 1)) (sym (e ∙ ap (paste out (y * n) (map clamp (row (rowOf cols y)))) (sym l))) (rows-more y out (row (rowOf cols y)) h b refl l)
-
   pub rows-all : (y : ℕ) (out : List ℕ) → Stored y out → n ≤ y → y ≤ n → out ≡ rowSamples row clamp n cols
   unfolding rowSamples
   rows-all y out h a b =
@@ -67,11 +61,6 @@ module _ (z : Size) (p : List ℤ) {t : Bool} (e : t ≡ zeroAt (z .ac) p) where
   unfolding rowPass
   row-full h f = simp (sym e ∙ h) f
 
--- what a store of a row's samples left, for the row that they are of
-pub stored-row : (clamp : ℤ → ℕ) (out : List ℕ) (at n : ℕ) {q r : List ℤ} {left : List ℕ} → q ≡ r → length r ≡ n →
-    left ≡ paste out at (map clamp q) (length q) → left ≡ paste out at (map clamp r) n
-stored-row clamp out at n e l s = s ∙ (λ i. paste out at (map clamp (e i)) ((ap length e ∙ l) i))
-
 -- a pass gives a number for each row of gains, and a row of a size as many as the size's side
 pub length-pass : (w : Width) (rows : List (List ℤ)) (s : ℕ) (p : List ℤ) → length (pass w rows s p) ≡ length rows
 unfolding pass transform
@@ -84,3 +73,23 @@ length-row z p e = go (zeroAt (z .ac) p)
     go : (t : Bool) → length (cond t (replicate (z .side) (descaled w32 (dc p) 5)) (pass w32 (z .matrix) (18 + z .extra) p)) ≡ z .side
     go true = length-replicate (z .side) _
     go false = length-pass w32 (z .matrix) (18 + z .extra) p ∙ e
+
+-- the rows of an 8-bit block of a size
+module _ (z : Size) (side : length (z .matrix) ≡ z .side) where
+  -- a row that is stored as long as it is
+  pub row-stored : (out : List ℕ) (at : ℕ) (p : List ℤ) {q : List ℤ} {left : List ℕ} → q ≡ rowPass z p → left ≡ paste out at (map sampleU8 q) (length q) →
+      left ≡ paste out at (map sampleU8 (rowPass z p)) (z .side)
+  row-stored out at p e h = h ∙ (λ i. paste out at (map sampleU8 (e i)) ((ap length e ∙ length-row z p side) i))
+
+  -- one row more
+  pub rows-turn : (cols : List (List ℤ)) (y : ℕ) (out : List ℕ) {p : List ℤ} {left : List ℕ} → Stored (rowPass z) sampleU8 (z .side) cols y out → y < z .side → p ≡ rowOf cols y →
+      left ≡ paste out (y * z .side) (map sampleU8 (rowPass z p)) (z .side) → Stored (rowPass z) sampleU8 (z .side) cols (y + 1) left
+  rows-turn cols y out {p} s b e h =
+      let long = length-row z p side in
+      subst (Stored (rowPass z) sampleU8 (z .side) cols (y + 1)) (sym (h ∙ ap (paste out (y * z .side) (map sampleU8 (rowPass z p))) (sym long)))
+      (rows-more (rowPass z) sampleU8 (z .side) cols y out (rowPass z p) s b (ap (rowPass z) e) long)
+
+-- the block: its rows of its columns
+pub block-read : (z : Size) (xs : List ℤ) {cols : List (List ℤ)} {out : List ℕ} → cols ≡ columns (columnPass z) xs → out ≡ rowSamples (rowPass z) sampleU8 (z .side) cols → out ≡ block z xs
+unfolding block samples
+block-read z xs e h = h ∙ ap (rowSamples (rowPass z) sampleU8 (z .side)) e

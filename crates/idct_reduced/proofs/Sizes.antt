@@ -1,22 +1,20 @@
 -- What the two reduced sizes share: each step of a block, over the size.
 -- Assumes nothing.
-use mathlib.Core.Path.{_≡_, refl, sym, ap, _∙_, subst}
-use mathlib.Core.Bool.{Bool, true, false}
+use mathlib.Core.Path.{_≡_, refl, ap, _∙_}
 use mathlib.Core.List.{List, map}
-use Prim.Native.Nat.{ℕ, _+_, _*_, _^_, _<_, _≤_}
-use lib.ListN.{length, getD, replicate, length-map}
-use lib.Seq.{paste}
+use Prim.Native.Nat.{ℕ, _+_, _^_, _≤_}
+use lib.ListN.{length, getD, length-map}
 use lib.IntN.{ℤ, pos, natAbs}
 use mir.Syntax.{Width, w32}
-use Rattle.integers.specs.Linear.{transform, zeroAt}
+use Rattle.integers.specs.Linear.{transform}
 use Rattle.lists.specs.Tab.{tab}
 use Rattle.lists.proofs.Tab.{length-tab, map-getD}
 use Rattle.gains.specs.Gains.{mirror, mirrored, upper4, gains4, upper2, gains2}
-use Rattle.scaling.specs.Scaling.{descaled, sampleU8}
-use Rattle.passes.specs.Passes.{Size, dc, pass, columnPass, rowPass}
+use Rattle.scaling.specs.Scaling.{descaled}
+use Rattle.passes.specs.Passes.{Size, dc, pass, columnPass}
 use Rattle.block.specs.Bound.{AtMost}
-use Rattle.block.specs.Block.{columnOf, columns, rowOf, rowSamples, samples, block, firstRows}
-use Rattle.block.proofs.Rows.{Stored, first-all, rows-more, length-row}
+use Rattle.block.specs.Block.{columnOf, firstRows}
+use Rattle.block.proofs.Rows.{first-all}
 
 -- how many outputs a transform has
 pub four-rows : length gains4 ≡ 4
@@ -39,32 +37,3 @@ pub column-read : (z : Size) → ((p : List ℤ) → length p ≡ 8 → natAbs (
 unfolding columnOf
 column-read z full xs u {p} l h e =
     e ∙ full p (ap length (h .0) ∙ length-tab 8 _) (h .1 0) ∙ ap (columnPass z) (h .0 ∙ ap (λ (t : List ℤ). columnOf t u) (first-all xs l))
-
--- the two ways to a row's samples, by its zero test t
-module _ (z : Size) (p : List ℤ) {t : Bool} (test : t ≡ zeroAt (z .ac) p) where
-  pub zero-row : t ≡ true → {v : ℤ} → v ≡ descaled w32 (dc p) 5 → replicate (z .side) v ≡ rowPass z p
-  unfolding rowPass
-  zero-row e f = rw (sym test ∙ e) (ap (replicate (z .side)) f)
-
-  pub full-row : t ≡ false → {q : List ℤ} → q ≡ pass w32 (z .matrix) (18 + z .extra) p → q ≡ rowPass z p
-  unfolding rowPass
-  full-row e f = rw (sym test ∙ e) f
-
-module _ (z : Size) (side : length (z .matrix) ≡ z .side) where
-  -- a row that is stored as long as it is
-  pub row-stored : (out : List ℕ) (at : ℕ) (p : List ℤ) {q : List ℤ} {left : List ℕ} → q ≡ rowPass z p → left ≡ paste out at (map sampleU8 q) (length q) →
-      left ≡ paste out at (map sampleU8 (rowPass z p)) (z .side)
-  row-stored out at p e h = h ∙ (λ i. paste out at (map sampleU8 (e i)) (length (e i))) ∙ ap (paste out at (map sampleU8 (rowPass z p))) (length-row z p side)
-
-  -- one row more
-  pub rows-turn : (cols : List (List ℤ)) (y : ℕ) (out : List ℕ) {p : List ℤ} {left : List ℕ} → Stored (rowPass z) sampleU8 (z .side) cols y out → y < z .side → p ≡ rowOf cols y →
-      left ≡ paste out (y * z .side) (map sampleU8 (rowPass z p)) (z .side) → Stored (rowPass z) sampleU8 (z .side) cols (y + 1) left
-  rows-turn cols y out {p} s b e h =
-      let long = length-row z p side in
-      subst (Stored (rowPass z) sampleU8 (z .side) cols (y + 1)) (sym (h ∙ ap (paste out (y * z .side) (map sampleU8 (rowPass z p))) (sym long)))
-      (rows-more (rowPass z) sampleU8 (z .side) cols y out (rowPass z p) s b (ap (rowPass z) e) long)
-
--- the block: its rows of its columns
-pub block-read : (z : Size) (xs : List ℤ) {cols : List (List ℤ)} {out : List ℕ} → cols ≡ columns (columnPass z) xs → out ≡ rowSamples (rowPass z) sampleU8 (z .side) cols → out ≡ block z xs
-unfolding block samples
-block-read z xs e h = h ∙ ap (rowSamples (rowPass z) sampleU8 (z .side)) e

@@ -1,14 +1,11 @@
 -- `idct::rows` meets its contract. Assumes nothing.
-use Prim.Native.Nat.{_≤_, _-_, _*_}
-use mathlib.Core.Path.{refl, _∙_, ap}
-use mathlib.Core.List.{map}
+use Prim.Native.Nat.{_≤_, _-_}
 use native.Mathlib.Omega.{arith}
 use borrow.Author.Needs.{needs}
-use lib.Seq.{paste}
-use Rattle.gains.specs.Gains.{mirror, mirrored, upper, gains}
 use Rattle.scaling.specs.Scaling.{sampleU8}
 use Rattle.passes.specs.Passes.{eight, rowPass}
-use Rattle.block.proofs.Rows.{Stored, rows-none, rows-next, rows-all, length-row}
+use Rattle.block.proofs.Rows.{Stored, rows-none, rows-turn, rows-all}
+use Rattle.idct.proofs.Side.{eight-rows}
 use Rattle.idct.proofs.rows.Statement.{statement}
 use Rattle.idct.proofs.rows.Tie as tie
 
@@ -19,14 +16,11 @@ abbrev μ-loop : tie.MeasureT-loop
 μ-loop w output₀ y₀ output y = 8 - y
 
 loop-again : tie.Need-loop-again Inv-loop μ-loop
-unfolding eight mirror mirrored upper gains
+unfolding eight
 loop-again c =
-    let done = c .before .before in
-    let turn = done .before .before .before .before in
-    let w = turn .before .before .args .w .now in
-    let y = turn .loop .y in
-    let left = done .row .ensures ∙ ap (λ p. paste (turn .loop .output) (y * 8) (map sampleU8 (rowPass eight p)) 8) (done .before .load-row .ensures) in
-    (omega arith, rows-next (rowPass eight) sampleU8 8 w y (turn .loop .output) (turn .loop .inv .1) (done .before .before .before .loop-test .taken) (length-row eight _ refl) left)
+    let call = c .before .before in
+    let turn = call .before .before .before .before in
+    (omega arith, rows-turn eight eight-rows (turn .before .before .args .w .now) (turn .loop .y) (turn .loop .output) (turn .loop .inv .1) (omega arith) (call .before .load-row .ensures) (call .row .ensures))
 
 pub rows-spec : {M : Type 1} → statement M
 rows-spec =
