@@ -119,3 +119,8 @@ exact-two = exact two tt tt tt
 pub narrow-column : (p : List ℤ) → AtMost (2 ^ 15) p → pass w32 gains 12 p ≡ pass w64 gains 12 p
 unfolding light weight mirror mirrored upper gains
 narrow-column p h = pass-exact p (2 ^ 15) h 12 w32 gains tt ∙ sym (pass-exact p (2 ^ 15) h 12 w64 gains tt)
+
+-- and so do the columns of a block of 16-bit numbers
+pub columns-narrow : (xs : List ℤ) → ((u : ℕ) → u < 8 → AtMost (2 ^ 15) (columnOf xs u)) → columns (pass w32 gains 12) xs ≡ columns (pass w64 gains 12) xs
+unfolding columns
+columns-narrow xs h = tab-ext 8 _ _ (λ u b. narrow-column (columnOf xs u) (h u b))
