@@ -7,6 +7,9 @@
 //! Arguments: the folder for the files, and the file for the lines that the
 //! replay must print.
 
+mod blocks;
+
+use blocks::{blocks, CLAMP_12BIT, CLAMP_8BIT};
 use j2k_codec_math::jpeg::idct;
 use std::path::PathBuf;
 
@@ -55,7 +58,7 @@ macro_rules! put_number {
         }
     )*};
 }
-put_number!(u8 u16 i32 i64);
+put_number!(u8 u16 i16 i32 i64);
 
 impl<T: Put, const N: usize> Put for [T; N] {
     fn put(&self, to: &mut Vec<u8>) {
@@ -70,10 +73,17 @@ impl<A: Put, B: Put> Put for (A, B) {
     }
 }
 
-/// The numbers that the transforms are tried on: `i32` and `i64`.
+/// The numbers that the transforms are tried on: `i16`, `i32` and `i64`.
 trait Number: Copy + PartialEq {
     const BITS: u32;
     fn of(x: i64) -> Self;
+}
+
+impl Number for i16 {
+    const BITS: u32 = 16;
+    fn of(x: i64) -> Self {
+        i16::try_from(x).expect("a number of 16 bits")
+    }
 }
 
 impl Number for i32 {
@@ -113,7 +123,7 @@ fn powers<T: Number>() -> Vec<i64> {
 
 /// The ends of the type, small numbers and the ends of 16 bits.
 fn ends<T: Number>() -> Vec<i64> {
-    vec![
+    let mut all = vec![
         least::<T>(),
         least::<T>() + 1,
         least::<T>() / 2,
@@ -130,7 +140,11 @@ fn ends<T: Number>() -> Vec<i64> {
         most::<T>() / 2 + 1,
         most::<T>() - 1,
         most::<T>(),
-    ]
+    ];
+    all.retain(|x| (least::<T>()..=most::<T>()).contains(x));
+    all.sort_unstable();
+    all.dedup();
+    all
 }
 
 fn randoms<T: Number>(count: usize) -> Vec<T> {
@@ -441,6 +455,77 @@ fn passes(to: &mut Answers) {
     to.save("islow_row", layout, &rows, idct::islow_row);
 }
 
+/// An entry as a function of its block.
+fn samples<T, S: Copy + Default, const N: usize>(
+    entry: impl Fn(&[T; 64], &mut [S; N]),
+) -> impl Fn([T; 64]) -> [S; N] {
+    move |input| {
+        let mut output = [S::default(); N];
+        entry(&input, &mut output);
+        output
+    }
+}
+
+fn block_entries(to: &mut Answers) {
+    let narrow = blocks::<i16>(&CLAMP_8BIT, 2_000);
+    let layout = "input [i16; 64]; output [u8; 64]";
+    to.save("islow_block", layout, &narrow, samples(idct::islow_block));
+    let wide = blocks::<i32>(&CLAMP_8BIT, 2_000);
+    let layout_i32 = "input [i32; 64]; output [u8; 64]";
+    to.save(
+        "islow_block_i32",
+        layout_i32,
+        &wide,
+        samples(idct::islow_block),
+    );
+    to.save(
+        "islow_block_top_half",
+        layout,
+        &narrow,
+        samples(idct::islow_block_top_half),
+    );
+    to.save(
+        "islow_block_top_half_i32",
+        layout_i32,
+        &wide,
+        samples(idct::islow_block_top_half),
+    );
+    to.save(
+        "islow_block_4x4",
+        "input [i16; 64]; output [u8; 16]",
+        &narrow,
+        samples(idct::islow_block_4x4),
+    );
+    to.save(
+        "islow_block_2x2",
+        "input [i16; 64]; output [u8; 4]",
+        &narrow,
+        samples(idct::islow_block_2x2),
+    );
+}
+
+fn block_entries_12bit(to: &mut Answers) {
+    let inputs = blocks::<i16>(&CLAMP_12BIT, 2_000);
+    to.save(
+        "islow_block_12bit",
+        "input [i16; 64]; output [u16; 64]",
+        &inputs,
+        samples(idct::islow_block_12bit),
+    );
+    to.save(
+        "islow_block_12bit_4x4",
+        "input [i16; 64]; output [u16; 16]",
+        &inputs,
+        samples(idct::islow_block_12bit_4x4),
+    );
+    to.save(
+        "islow_block_12bit_2x2",
+        "input [i16; 64]; output [u16; 4]",
+        &inputs,
+        samples(idct::islow_block_12bit_2x2),
+    );
+}
+
 fn main() {
     let mut args = std::env::args().skip(1);
     let folder = PathBuf::from(args.next().expect("the folder for the answers"));
@@ -454,5 +539,7 @@ fn main() {
     islow(&mut to);
     islow_i64(&mut to);
     passes(&mut to);
+    block_entries(&mut to);
+    block_entries_12bit(&mut to);
     std::fs::write(lines, to.lines).expect("the lines are written");
 }

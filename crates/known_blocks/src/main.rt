@@ -1,35 +1,15 @@
 // Prints what the exported functions give at known places, one fact a line: the ends of what a
 // function takes, refusals, and the differences from the Rust.
-use libc::STDOUT_FILENO;
+mod blocks;
+mod blocks_12bit;
+mod blocks_i16;
+mod blocks_i32;
+mod print;
 
-fn text(bytes: &[u8]) {
-    io::write_all(STDOUT_FILENO, bytes);
-}
-
-fn decimal(n: u32) {
-    io::print_decimal(STDOUT_FILENO, n as u64);
-}
-
-// A number with its sign, in decimal.
-fn number(n: i32) {
-    let bits = word::to_bits_i32(n);
-    if n < 0 {
-        text(b"-");
-        decimal(std::num::wrapping_sub_u32(0, bits));
-    } else {
-        decimal(bits);
-    }
-}
-
-fn number_i64(n: i64) {
-    let bits = word::to_bits_i64(n);
-    if n < 0 {
-        text(b"-");
-        io::print_decimal(STDOUT_FILENO, std::num::wrapping_sub_u64(0, bits));
-    } else {
-        io::print_decimal(STDOUT_FILENO, bits);
-    }
-}
+use print::decimal;
+use print::number;
+use print::number_i64;
+use print::text;
 
 fn descale(value: i32, shift: i32) {
     text(b"descale ");
@@ -105,4 +85,7 @@ fn main() {
     shifts_refused();
     samples();
     islow_gain_bounds();
+    blocks_i16::facts();
+    blocks_i32::facts();
+    blocks_12bit::facts();
 }

@@ -32,6 +32,38 @@ pub fn differs_i64(case: &[u8; ROOM], at: usize, answer: i64) -> bool
 }
 
 // Whether any of the answers differs. One that the case has no room for does.
+pub fn any_differs_u8(case: &[u8; ROOM], at: usize, answers: &[u8]) -> bool {
+    let mut i = 0;
+    let mut at = at;
+    while i < answers.len() {
+        if at >= ROOM {
+            return true;
+        }
+        if differs_u8(case, at, answers[i]) {
+            return true;
+        }
+        i += 1;
+        at += 1;
+    }
+    false
+}
+
+pub fn any_differs_u16(case: &[u8; ROOM], at: usize, answers: &[u16]) -> bool {
+    let mut i = 0;
+    let mut at = at;
+    while i < answers.len() {
+        if at > ROOM - 2 {
+            return true;
+        }
+        if differs_u16(case, at, answers[i]) {
+            return true;
+        }
+        i += 1;
+        at += 2;
+    }
+    false
+}
+
 pub fn any_differs_i32(case: &[u8; ROOM], at: usize, answers: &[i32]) -> bool {
     let mut i = 0;
     let mut at = at;

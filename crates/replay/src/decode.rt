@@ -1,5 +1,7 @@
 // The inputs of one case: little-endian numbers.
+ghost use mathlib.Core.Path.{_≡_};
 ghost use Prim.Native.Nat.{_+_, _≤_};
+ghost use lib.ListN.{length};
 
 // A case is read into this many bytes, of which it may fill fewer.
 pub const ROOM: usize = 512;
@@ -40,6 +42,21 @@ pub fn u64_at(case: &[u8; ROOM], at: usize) -> u64
     wider(u32_at(case, at)) | wider(u32_at(case, at + 4)) << 32
 }
 
+// The number whose bits are x.
+fn from_bits_u16(x: u16) -> i16 {
+    if x <= 0x7fff {
+        x as i16
+    } else {
+        !((u16::MAX - x) as i16)
+    }
+}
+
+pub fn i16_at(case: &[u8; ROOM], at: usize) -> i16
+    requires { ⌜ at + 2 ≤ 512 ⌝ }
+{
+    from_bits_u16(u16_at(case, at))
+}
+
 pub fn i32_at(case: &[u8; ROOM], at: usize) -> i32
     requires { ⌜ at + 4 ≤ 512 ⌝ }
 {
@@ -77,4 +94,29 @@ pub fn row_i64(case: &[u8; ROOM]) -> [i64; 8] {
         i64_at(case, 48),
         i64_at(case, 56),
     ]
+}
+
+// The 64 numbers that a case starts with: one block.
+pub fn block_i16(case: &[u8; ROOM]) -> [i16; 64]
+    ensures { λ r. ⌜ 64 ≡ length r ⌝ }
+{
+    let mut block = [0i16; 64];
+    let mut i = 0;
+    while i < 64 {
+        block[i] = i16_at(case, 2 * i);
+        i += 1;
+    }
+    block
+}
+
+pub fn block_i32(case: &[u8; ROOM]) -> [i32; 64]
+    ensures { λ r. ⌜ 64 ≡ length r ⌝ }
+{
+    let mut block = [0i32; 64];
+    let mut i = 0;
+    while i < 64 {
+        block[i] = i32_at(case, 4 * i);
+        i += 1;
+    }
+    block
 }

@@ -1,5 +1,6 @@
 // The functions that are replayed. One more is a function of a `.._cases` module, a variant and an
 // arm here, a line of main.rt with the size of its cases, and its answers in oracle/generate.rs.
+use crate::block_cases;
 use crate::decode::ROOM;
 use crate::islow_cases;
 use crate::scaling_cases;
@@ -28,6 +29,15 @@ pub enum Function {
     IslowPass2,
     IslowColumn,
     IslowRow,
+    IslowBlock,
+    IslowBlockI32,
+    IslowBlockTopHalf,
+    IslowBlockTopHalfI32,
+    IslowBlock4x4,
+    IslowBlock2x2,
+    IslowBlock12bit,
+    IslowBlock12bit4x4,
+    IslowBlock12bit2x2,
 }
 
 // Whether the function's answer for this case differs from the oracle's.
@@ -55,5 +65,14 @@ pub fn differs(function: Function, case: &[u8; ROOM]) -> bool {
         Function::IslowPass2 => islow_cases::islow_pass2(case),
         Function::IslowColumn => islow_cases::islow_column(case),
         Function::IslowRow => islow_cases::islow_row(case),
+        Function::IslowBlock => block_cases::islow_block(case),
+        Function::IslowBlockI32 => block_cases::islow_block_i32(case),
+        Function::IslowBlockTopHalf => block_cases::islow_block_top_half(case),
+        Function::IslowBlockTopHalfI32 => block_cases::islow_block_top_half_i32(case),
+        Function::IslowBlock4x4 => block_cases::islow_block_4x4(case),
+        Function::IslowBlock2x2 => block_cases::islow_block_2x2(case),
+        Function::IslowBlock12bit => block_cases::islow_block_12bit(case),
+        Function::IslowBlock12bit4x4 => block_cases::islow_block_12bit_4x4(case),
+        Function::IslowBlock12bit2x2 => block_cases::islow_block_12bit_2x2(case),
     }
 }

@@ -1,5 +1,6 @@
 // Runs the oracle's answers, the files of data/, through the exported functions, and prints for
 // each function how many cases its file holds and how many of them differ.
+mod block_cases;
 mod compare;
 mod decode;
 mod function;
@@ -122,9 +123,26 @@ fn replay_passes() {
     replay(b"islow_row", Function::IslowRow, 64);
 }
 
+fn replay_blocks() {
+    replay(b"islow_block", Function::IslowBlock, 192);
+    replay(b"islow_block_i32", Function::IslowBlockI32, 320);
+    replay(b"islow_block_top_half", Function::IslowBlockTopHalf, 192);
+    replay(
+        b"islow_block_top_half_i32",
+        Function::IslowBlockTopHalfI32,
+        320,
+    );
+    replay(b"islow_block_4x4", Function::IslowBlock4x4, 144);
+    replay(b"islow_block_2x2", Function::IslowBlock2x2, 132);
+    replay(b"islow_block_12bit", Function::IslowBlock12bit, 256);
+    replay(b"islow_block_12bit_4x4", Function::IslowBlock12bit4x4, 160);
+    replay(b"islow_block_12bit_2x2", Function::IslowBlock12bit2x2, 136);
+}
+
 fn main() {
     replay_word();
     replay_scaling();
     replay_islow();
     replay_passes();
+    replay_blocks();
 }
