@@ -16,6 +16,7 @@ use mir.Syntax.{Width, w32}
 use Rattle.integers.specs.Linear.{transform, zeroAt}
 use Rattle.lists.specs.Tab.{tab}
 use Rattle.lists.proofs.Tab.{Filled, none, all, same, tab-ext, tab-getD, map-getD, filled-paste}
+use Rattle.gains.specs.Gains.{mirror, mirrored, upper, gains, upper4, gains4, upper2, gains2}
 use Rattle.scaling.specs.Scaling.{descaled, sampleU8}
 use Rattle.passes.specs.Passes.{Size, pass, dc, columnPass, rowPass}
 use Rattle.block.specs.Block.{columns, rowOf, rowSamples, samples, block, firstRows}
@@ -73,6 +74,19 @@ length-row z p e = go (zeroAt (z .ac) p)
     go : (t : Bool) → length (cond t (replicate (z .side) (descaled w32 (dc p) 5)) (pass w32 (z .matrix) (18 + z .extra) p)) ≡ z .side
     go true = length-replicate (z .side) _
     go false = length-pass w32 (z .matrix) (18 + z .extra) p ∙ e
+
+-- how many outputs each transform has
+pub eight-rows : length gains ≡ 8
+unfolding mirror mirrored upper gains
+eight-rows = refl
+
+pub four-rows : length gains4 ≡ 4
+unfolding mirror mirrored upper4 gains4
+four-rows = refl
+
+pub two-rows : length gains2 ≡ 2
+unfolding mirror mirrored upper2 gains2
+two-rows = refl
 
 -- the rows of an 8-bit block of a size
 module _ (z : Size) (side : length (z .matrix) ≡ z .side) where

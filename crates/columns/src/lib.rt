@@ -12,7 +12,7 @@ ghost use Rattle.integers.specs.Wrap.{wrap};
 ghost use Rattle.integers.specs.Linear.{transform};
 ghost use Rattle.gains.specs.Gains.{gains};
 ghost use Rattle.passes.specs.Passes.{pass};
-ghost use Rattle.block.specs.Block.{columnOf, columns, firstRows};
+ghost use Rattle.block.specs.Block.{columnOf, columns, rowOf, firstRows};
 ghost use Rattle.block.specs.Bound.{AtMost};
 use block::load_column;
 use passes::descale_8;
@@ -78,4 +78,18 @@ pub fn islow_columns(input: &[i16], rows: usize, shift: u32) -> [[i32; 8]; 8]
         u += 1;
     }
     w
+}
+
+// Row y of what is given by its columns.
+pub fn load_row(w: &[[i32; 8]; 8], y: usize) -> [i32; 8]
+    requires { ⌜ y < 8 ⌝ }
+    ensures { λ r. ⌜ r ≡ rowOf (now (w .entry)) y ⌝ }
+{
+    let mut p = [0i32; 8];
+    let mut u = 0;
+    while u < 8 {
+        p[u] = w[u][y];
+        u += 1;
+    }
+    p
 }

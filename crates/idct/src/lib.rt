@@ -9,10 +9,11 @@ ghost use lib.ListN.{length};
 ghost use lib.Seq.{paste};
 ghost use Rattle.scaling.specs.Scaling.{sampleU8};
 ghost use Rattle.passes.specs.Passes.{eight, columnPass, rowPass};
-ghost use Rattle.block.specs.Block.{columns, rowOf, rowSamples, block, firstRows, status, after};
+ghost use Rattle.block.specs.Block.{columns, rowSamples, block, firstRows, status, after};
 use block::load_column_i32;
 use block::put_row;
 use columns::islow_columns;
+use columns::load_row;
 use passes::DC_SHIFT;
 use passes::PASS1_SHIFT;
 use passes::ac_is_zero;
@@ -33,20 +34,6 @@ fn columns_i32(input: &[i32], rows: usize) -> [[i32; 8]; 8]
         u += 1;
     }
     w
-}
-
-// Row y of what is given by its columns.
-fn load_row(w: &[[i32; 8]; 8], y: usize) -> [i32; 8]
-    requires { ⌜ y < 8 ⌝ }
-    ensures { λ r. ⌜ r ≡ rowOf (now (w .entry)) y ⌝ }
-{
-    let mut p = [0i32; 8];
-    let mut u = 0;
-    while u < 8 {
-        p[u] = w[u][y];
-        u += 1;
-    }
-    p
 }
 
 // Stores row y of the samples. The zero test stands here, so that the pass is branch-free and is inlined.

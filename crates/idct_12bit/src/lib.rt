@@ -16,6 +16,7 @@ ghost use Rattle.block.specs.Block.{columns, rowOf, rowSamples, block12bit, sta
 use block::load_column;
 use block::put_row_12bit;
 use columns::islow_columns;
+use columns::load_row;
 use gains::CONST_BITS;
 use islow_i64::islow_1d_2_i64;
 use islow_i64::islow_1d_4_i64;
@@ -121,19 +122,6 @@ fn columns_2(input: &[i16]) -> [[i64; 2]; 8]
 }
 
 // Row y of what is given by its columns.
-fn load_row_8(w: &[[i32; 8]; 8], y: usize) -> [i64; 8]
-    requires { ⌜ y < 8 ⌝ }
-    ensures { λ r. ⌜ r ≡ rowOf (now (w .entry)) y ⌝ }
-{
-    let mut p = [0i64; 8];
-    let mut u = 0;
-    while u < 8 {
-        p[u] = widen(w[u][y]);
-        u += 1;
-    }
-    p
-}
-
 fn load_row_4(w: &[[i64; 4]; 8], y: usize) -> [i64; 8]
     requires { ⌜ y < 4 ⌝ }
     ensures { λ r. ⌜ r ≡ rowOf (now (w .entry)) y ⌝ }
@@ -166,7 +154,7 @@ fn rows_8(w: &[[i32; 8]; 8], output: &mut [u16])
 {
     let mut y = 0;
     while y < 8 {
-        let q = pass_8(load_row_8(w, y), PASS2_SHIFT_12);
+        let q = pass_8(widen_8(load_row(w, y)), PASS2_SHIFT_12);
         put_row_12bit(output, y * 8, &q);
         y += 1;
     }

@@ -1,6 +1,6 @@
 -- What the two reduced sizes share: each step of a block, over the size.
 -- Assumes nothing.
-use mathlib.Core.Path.{_≡_, refl, ap, _∙_}
+use mathlib.Core.Path.{_≡_, ap, _∙_}
 use mathlib.Core.List.{List, map}
 use Prim.Native.Nat.{ℕ, _+_, _^_, _≤_}
 use lib.ListN.{length, getD, length-map}
@@ -9,21 +9,11 @@ use mir.Syntax.{Width, w32}
 use Rattle.integers.specs.Linear.{transform}
 use Rattle.lists.specs.Tab.{tab}
 use Rattle.lists.proofs.Tab.{length-tab, map-getD}
-use Rattle.gains.specs.Gains.{mirror, mirrored, upper4, gains4, upper2, gains2}
 use Rattle.scaling.specs.Scaling.{descaled}
 use Rattle.passes.specs.Passes.{Size, dc, pass, columnPass}
 use Rattle.block.specs.Bound.{AtMost}
 use Rattle.block.specs.Block.{columnOf, firstRows}
 use Rattle.block.proofs.Rows.{first-all}
-
--- how many outputs a transform has
-pub four-rows : length gains4 ≡ 4
-unfolding mirror mirrored upper4 gains4
-four-rows = refl
-
-pub two-rows : length gains2 ≡ 2
-unfolding mirror mirrored upper2 gains2
-two-rows = refl
 
 -- a pass, output by output
 pub pass-read : (w : Width) (rows : List (List ℤ)) {n : ℕ} → length rows ≡ n → (s : ℕ) (p v : List ℤ) → v ≡ transform w rows p → tab n (λ i. descaled w (getD v i (pos 0)) s) ≡ pass w rows s p

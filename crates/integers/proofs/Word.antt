@@ -138,3 +138,7 @@ module _ (v w : Width) {x : ℤ} (wider : T (leb (hbits v) (hbits w))) (f : SFit
 
   pub widened : toZ w (ofZ w (toZ v (ofZ v x))) ≡ x
   widened = toZ-ofZ w _ widens ∙ toZ-ofZ v x f
+
+  -- what a call that widens x gave
+  pub widened-read : {r : ℤ} → r ≡ toZ v (ofZ v x) → toZ w (ofZ w r) ≡ x
+  widened-read e = ap (λ (t : ℤ). toZ w (ofZ w t)) e ∙ widened

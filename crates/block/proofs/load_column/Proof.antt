@@ -5,10 +5,9 @@ use native.Mathlib.Omega.{arith}
 use borrow.Author.Count.{below-none, below-more}
 use borrow.Author.Needs.{needs}
 use lib.ListN.{getD}
-use lib.IntN.{ℤ, pos, natAbs}
+use lib.IntN.{pos, natAbs}
 use mir.Syntax.{w16, w32}
-use mir.Val.{toZ, ofZ}
-use Rattle.integers.proofs.Word.{widened}
+use Rattle.integers.proofs.Word.{widened-read}
 use Rattle.block.specs.Bound.{AtMost}
 use Rattle.block.proofs.Load.{loaded, load-none, load-more, load-all, load-at-most, abs-16}
 use Rattle.block.proofs.load_column.Statement.{statement}
@@ -25,7 +24,7 @@ loop-again c =
     let turn = c .before .before .before in
     let small = c .before .widen-arg .given in
     let x = getD (turn .before .args .input .now) (8 * turn .loop .v + turn .before .args .u) (pos 0) in
-    let value = ap (λ (t : ℤ). toZ w32 (ofZ w32 t)) (c .widen .ensures) ∙ widened w16 w32 {x = x} tt (record { sfits = small }) in
+    let value = widened-read w16 w32 {x = x} tt (record { sfits = small }) (c .widen .ensures) in
     (omega arith, load-more _ _ _ (turn .loop .inv .1) (omega arith) value, below-more _ _ (turn .loop .inv .2) (abs-16 x small))
 
 returns : tie.Need-returns Inv-loop μ-loop

@@ -4,8 +4,7 @@ use borrow.Author.Needs.{needs}
 use mir.Syntax.{w32}
 use Rattle.scaling.proofs.Rounding.{descaled-read}
 use Rattle.passes.specs.Passes.{eight}
-use Rattle.block.proofs.Rows.{row-zero, row-full, row-stored}
-use Rattle.idct.proofs.Side.{eight-rows}
+use Rattle.block.proofs.Rows.{row-zero, row-full, row-stored, eight-rows}
 use Rattle.idct.proofs.row.Statement.{statement}
 use Rattle.idct.proofs.row.Tie as tie
 

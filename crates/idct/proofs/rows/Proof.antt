@@ -4,8 +4,7 @@ use native.Mathlib.Omega.{arith}
 use borrow.Author.Needs.{needs}
 use Rattle.scaling.specs.Scaling.{sampleU8}
 use Rattle.passes.specs.Passes.{eight, rowPass}
-use Rattle.block.proofs.Rows.{Stored, rows-none, rows-turn, rows-all}
-use Rattle.idct.proofs.Side.{eight-rows}
+use Rattle.block.proofs.Rows.{Stored, rows-none, rows-turn, rows-all, eight-rows}
 use Rattle.idct.proofs.rows.Statement.{statement}
 use Rattle.idct.proofs.rows.Tie as tie
 

@@ -1,13 +1,12 @@
 -- `idct_12bit::rows_2` meets its contract. Assumes nothing.
 use Prim.Native.Nat.{_≤_, _-_}
-use mathlib.Core.Path.{refl}
 use native.Mathlib.Omega.{arith}
 use borrow.Author.Needs.{needs}
 use mir.Syntax.{w64}
-use Rattle.gains.specs.Gains.{mirror, mirrored, upper2, gains2}
+use Rattle.gains.specs.Gains.{gains2}
 use Rattle.scaling.specs.Scaling.{sample12bit}
 use Rattle.passes.specs.Passes.{pass}
-use Rattle.block.proofs.Rows.{Stored, rows-none, rows-all}
+use Rattle.block.proofs.Rows.{Stored, rows-none, rows-all, two-rows}
 use Rattle.idct_12bit.proofs.Sizes.{row-stored}
 use Rattle.idct_12bit.proofs.rows_2.Statement.{statement}
 use Rattle.idct_12bit.proofs.rows_2.Tie as tie
@@ -19,13 +18,12 @@ abbrev μ-loop : tie.MeasureT-loop
 μ-loop w output₀ y₀ output y = 2 - y
 
 loop-again : tie.Need-loop-again Inv-loop μ-loop
-unfolding mirror mirrored upper2 gains2
 loop-again c =
     let put = c .before .before in
     let made = put .before .before .before in
     let load = made .before in
     let turn = load .before .before in
-    (omega arith, row-stored gains2 19 2 _ _ _ refl (turn .loop .inv .1) (omega arith) (load .load-row-2 .ensures) (made .pass-2 .ensures) (put .put-row-12bit .ensures))
+    (omega arith, row-stored gains2 19 2 _ _ _ two-rows (turn .loop .inv .1) (omega arith) (load .load-row-2 .ensures) (made .pass-2 .ensures) (put .put-row-12bit .ensures))
 
 pub rows-2-spec : {M : Type 1} → statement M
 rows-2-spec =

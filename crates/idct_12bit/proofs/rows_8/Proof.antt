@@ -1,13 +1,13 @@
 -- `idct_12bit::rows_8` meets its contract. Assumes nothing.
 use Prim.Native.Nat.{_≤_, _-_}
-use mathlib.Core.Path.{refl}
+use mathlib.Core.Path.{_∙_}
 use native.Mathlib.Omega.{arith}
 use borrow.Author.Needs.{needs}
 use mir.Syntax.{w64}
-use Rattle.gains.specs.Gains.{mirror, mirrored, upper, gains}
+use Rattle.gains.specs.Gains.{gains}
 use Rattle.scaling.specs.Scaling.{sample12bit}
 use Rattle.passes.specs.Passes.{pass}
-use Rattle.block.proofs.Rows.{Stored, rows-none, rows-all}
+use Rattle.block.proofs.Rows.{Stored, rows-none, rows-all, eight-rows}
 use Rattle.idct_12bit.proofs.Sizes.{row-stored}
 use Rattle.idct_12bit.proofs.rows_8.Statement.{statement}
 use Rattle.idct_12bit.proofs.rows_8.Tie as tie
@@ -19,13 +19,13 @@ abbrev μ-loop : tie.MeasureT-loop
 μ-loop w output₀ y₀ output y = 8 - y
 
 loop-again : tie.Need-loop-again Inv-loop μ-loop
-unfolding mirror mirrored upper gains
 loop-again c =
     let put = c .before .before in
     let made = put .before .before .before in
-    let load = made .before in
+    let wide = made .before in
+    let load = wide .before in
     let turn = load .before .before in
-    (omega arith, row-stored gains 17 8 _ _ _ refl (turn .loop .inv .1) (omega arith) (load .load-row-8 .ensures) (made .pass-8 .ensures) (put .put-row-12bit .ensures))
+    (omega arith, row-stored gains 17 8 _ _ _ eight-rows (turn .loop .inv .1) (omega arith) (wide .widen-8 .ensures ∙ load .load-row .ensures) (made .pass-8 .ensures) (put .put-row-12bit .ensures))
 
 pub rows-8-spec : {M : Type 1} → statement M
 rows-8-spec =
@@ -34,6 +34,7 @@ rows-8-spec =
     Inv-loop
     μ-loop
     (λ c. (omega arith, rows-none (pass w64 gains 17) sample12bit 8 (c .before .args .w .now) _ (omega arith)))
+    (λ c κs. search needs)
     (λ c κs. search needs)
     (λ c κs. search needs)
     (λ c. omega arith)

@@ -5,8 +5,9 @@ use native.Mathlib.Omega.{arith}
 use borrow.Author.Needs.{needs}
 use lib.ListN.{getD}
 use lib.IntN.{pos}
+use mir.Syntax.{w32, w64}
+use Rattle.integers.proofs.Word.{widened-read}
 use Rattle.lists.proofs.Tab.{Filled, none, more, all, tab-getD}
-use Rattle.idct_12bit.proofs.Widened.{widened-read}
 use Rattle.idct_12bit.proofs.widen_8.Statement.{statement}
 use Rattle.idct_12bit.proofs.widen_8.Tie as tie
 
@@ -19,7 +20,7 @@ abbrev μ-loop : tie.MeasureT-loop
 loop-again : tie.Need-loop-again Inv-loop μ-loop
 loop-again c =
     let turn = c .before .before .before in
-    (omega arith, more _ 8 _ _ _ _ (turn .loop .inv .1) (omega arith) refl (widened-read (record { sfits = c .before .widen-arg .given }) (c .widen .ensures)))
+    (omega arith, more _ 8 _ _ _ _ (turn .loop .inv .1) (omega arith) refl (widened-read w32 w64 tt (record { sfits = c .before .widen-arg .given }) (c .widen .ensures)))
 
 returns : tie.Need-returns Inv-loop μ-loop
 returns c =

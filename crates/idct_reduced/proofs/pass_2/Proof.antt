@@ -6,7 +6,8 @@ use mir.Syntax.{w32}
 use Rattle.lists.specs.Tab.{tab}
 use Rattle.gains.specs.Gains.{gains2}
 use Rattle.scaling.proofs.Rounding.{descaled-read}
-use Rattle.idct_reduced.proofs.Sizes.{two-rows, pass-read}
+use Rattle.block.proofs.Rows.{two-rows}
+use Rattle.idct_reduced.proofs.Sizes.{pass-read}
 use Rattle.idct_reduced.proofs.pass_2.Statement.{statement}
 use Rattle.idct_reduced.proofs.pass_2.Tie as tie
 

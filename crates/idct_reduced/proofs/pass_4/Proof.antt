@@ -6,7 +6,8 @@ use mir.Syntax.{w32}
 use Rattle.lists.specs.Tab.{tab}
 use Rattle.gains.specs.Gains.{gains4}
 use Rattle.scaling.proofs.Rounding.{descaled-read}
-use Rattle.idct_reduced.proofs.Sizes.{four-rows, pass-read}
+use Rattle.block.proofs.Rows.{four-rows}
+use Rattle.idct_reduced.proofs.Sizes.{pass-read}
 use Rattle.idct_reduced.proofs.pass_4.Statement.{statement}
 use Rattle.idct_reduced.proofs.pass_4.Tie as tie
 

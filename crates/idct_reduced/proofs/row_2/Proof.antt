@@ -4,8 +4,7 @@ use borrow.Author.Needs.{needs}
 use mir.Syntax.{w32}
 use Rattle.scaling.proofs.Rounding.{descaled-read}
 use Rattle.passes.specs.Passes.{two}
-use Rattle.block.proofs.Rows.{row-zero, row-full, row-stored}
-use Rattle.idct_reduced.proofs.Sizes.{two-rows}
+use Rattle.block.proofs.Rows.{row-zero, row-full, row-stored, two-rows}
 use Rattle.idct_reduced.proofs.row_2.Statement.{statement}
 use Rattle.idct_reduced.proofs.row_2.Tie as tie
 

@@ -4,8 +4,7 @@ use borrow.Author.Needs.{needs}
 use mir.Syntax.{w32}
 use Rattle.scaling.proofs.Rounding.{descaled-read}
 use Rattle.passes.specs.Passes.{four}
-use Rattle.block.proofs.Rows.{row-zero, row-full, row-stored}
-use Rattle.idct_reduced.proofs.Sizes.{four-rows}
+use Rattle.block.proofs.Rows.{row-zero, row-full, row-stored, four-rows}
 use Rattle.idct_reduced.proofs.row_4.Statement.{statement}
 use Rattle.idct_reduced.proofs.row_4.Tie as tie
 

@@ -4,8 +4,7 @@ use native.Mathlib.Omega.{arith}
 use borrow.Author.Needs.{needs}
 use Rattle.scaling.specs.Scaling.{sampleU8}
 use Rattle.passes.specs.Passes.{two, rowPass}
-use Rattle.block.proofs.Rows.{Stored, rows-none, rows-turn, rows-all}
-use Rattle.idct_reduced.proofs.Sizes.{two-rows}
+use Rattle.block.proofs.Rows.{Stored, rows-none, rows-turn, rows-all, two-rows}
 use Rattle.idct_reduced.proofs.rows_2.Statement.{statement}
 use Rattle.idct_reduced.proofs.rows_2.Tie as tie
 

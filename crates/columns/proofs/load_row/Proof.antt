@@ -1,16 +1,16 @@
--- `idct_12bit::load_row_8` meets its contract. Assumes nothing.
+-- `columns::load_row` meets its contract. Assumes nothing.
 use Prim.Native.Nat.{_≤_, _-_}
 use mathlib.Core.Path.{refl}
 use mathlib.Core.List.{[]}
 use native.Mathlib.Omega.{arith}
-use borrow.Author.Needs.{needs}
 use lib.ListN.{getD}
 use lib.IntN.{pos}
+use mir.Syntax.{w32}
+use mir.ValLaws.{toZ-ofZ}
 use Rattle.lists.proofs.Tab.{Filled, none, more, all}
 use Rattle.block.specs.Block.{rowOf}
-use Rattle.idct_12bit.proofs.Widened.{widened-read}
-use Rattle.idct_12bit.proofs.load_row_8.Statement.{statement}
-use Rattle.idct_12bit.proofs.load_row_8.Tie as tie
+use Rattle.columns.proofs.load_row.Statement.{statement}
+use Rattle.columns.proofs.load_row.Tie as tie
 
 abbrev Inv-loop : tie.InvT-loop
 Inv-loop w y p₀ u₀ p u = (u ≤ 8) × Filled (λ k. getD (getD w k []) y (pos 0)) 8 u p
@@ -18,17 +18,12 @@ Inv-loop w y p₀ u₀ p u = (u ≤ 8) × Filled (λ k. getD (getD w k []) y (po
 abbrev μ-loop : tie.MeasureT-loop
 μ-loop w y p₀ u₀ p u = 8 - u
 
-loop-again : tie.Need-loop-again Inv-loop μ-loop
-loop-again c =
-    let turn = c .before .before .before in
-    (omega arith, more _ 8 _ _ _ _ (turn .loop .inv .1) (omega arith) refl (widened-read (record { sfits = c .before .widen-arg .given }) (c .widen .ensures)))
-
 returns : tie.Need-returns Inv-loop μ-loop
 unfolding rowOf
 returns c = all _ 8 _ _ (c .before .loop .inv .1) (omega arith) (omega arith)
 
-pub load-row-8-spec : {M : Type 1} → statement M
-load-row-8-spec =
+pub load-row-spec : {M : Type 1} → statement M
+load-row-spec =
     tie.close
     (tie.spec
     Inv-loop
@@ -38,10 +33,9 @@ load-row-8-spec =
     (λ c. omega arith)
     (λ c. omega arith)
     (λ c. omega arith)
-    (λ c κs. search needs)
     (λ c. omega arith)
     (λ c. omega arith)
     (λ c. omega arith)
     (λ c. omega arith)
-    loop-again
+    (λ c. (omega arith, more _ 8 _ _ _ _ (c .before .before .loop .inv .1) (omega arith) refl (toZ-ofZ w32 _ (record { sfits = c .p .given }))))
     returns)
