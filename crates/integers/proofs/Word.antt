@@ -53,6 +53,10 @@ module _ (w : Width) where
       let h : n < 2 ^ bits w = half-full w (f .sfits) in
       ((tt, record { fits = h }), omega arith, omega arith)
 
+flip-size : (x : ℤ) → leZ (pos 0) x ≡ false → natAbs (flip x) + 1 ≡ natAbs x
+flip-size (pos n) t = clash (sym t ∙ leb·zero n)
+flip-size (negsuc n) t = omega arith
+
 module _ (w : Width) {x : ℤ} (f : SFits w x) where
   pub flips : SFits w (negsuc 0 -ℤ toZ w (ofZ w x))
   flips = rw (toZ-ofZ w x f, minus-one-minus x) (flip-fits x f)
@@ -67,6 +71,13 @@ module _ (w : Width) {x : ℤ} (f : SFits w x) where
       let y : ℤ = toZ w (ofZ w (negsuc 0 -ℤ toZ w (ofZ w x))) in
       Unsigned w y × (natAbs y ≤ 2 ^ bits w - 1) × (2 ^ bits w - 1 - natAbs y ≡ ofZ w x)
   to-bits-neg t = rw flipped (cast-neg w x f (rw (toZ-ofZ w x f) at t))
+
+  -- the size of x: `x as u64` where x is at least 0, else `((-1 - x) as u64) + 1`
+  pub abs-nonneg : natAbs (toZ w (ofZ w x)) ≡ natAbs x
+  abs-nonneg = ap natAbs (toZ-ofZ w x f)
+
+  pub abs-neg : leZ (pos 0) (toZ w (ofZ w x)) ≡ false → natAbs (toZ w (ofZ w (negsuc 0 -ℤ toZ w (ofZ w x)))) + 1 ≡ natAbs x
+  abs-neg t = rw flipped (flip-size x (rw (toZ-ofZ w x f) at t))
 
 -- ---- `from_bits` above the signed range: `-1 - ((u32::MAX - x) as i32)`
 
