@@ -1,0 +1,115 @@
+-- Folding does not change S: the 64-term sum is the 16-term sum of the fold.
+-- Assumes nothing.
+use mathlib.Core.Path.{_≡_, refl, sym, ap, _∙_}
+use mathlib.Core.Bool.{Bool, true, false}
+use mathlib.Core.List.{List}
+use Prim.Native.Nat.{ℕ, zero, suc, _+_, _-_, _*_, _/_, _%_, _<_}
+use native.Mathlib.Nat.{add-zero, add-suc, zero-mul, suc-mul}
+use native.Mathlib.Omega.{arith}
+use borrow.Author.Tests.{le-ltb}
+use lib.IntN.{ℤ, pos, negℤ, _+ℤ_, _*ℤ_, +ℤ-assoc, +ℤ-comm, +ℤ-idr}
+use Rattle.integers.proofs.Ring.{+ℤ-left-comm, +ℤ-*ℤ, negℤ-*ℤ, *ℤ-negℤ}
+use Rattle.basis.specs.Basis.{signed, entry, near, mirrors, basis}
+use Rattle.basis.proofs.Mirror.{mirror-x, mirror-y}
+use Rattle.forward.specs.Sum.{sumTo}
+use Rattle.forward.specs.Forward.{centred, scaledSum, odd, folded, foldedSum}
+
+sum-ext : (n : ℕ) (f g : ℕ → ℤ) → ((i : ℕ) → i < n → f i ≡ g i) → sumTo n f ≡ sumTo n g
+unfolding sumTo
+sum-ext zero f g h = refl
+sum-ext (suc n) f g h = λ i. sum-ext n f g (λ k b. h k (omega arith)) i +ℤ h n (omega arith) i
+
+sum-append : (f : ℕ → ℤ) (a b : ℕ) → sumTo (a + b) f ≡ sumTo a f +ℤ sumTo b (λ j. f (a + j))
+unfolding sumTo
+sum-append f a zero = ap (λ (n : ℕ). sumTo n f) (add-zero a) ∙ sym (+ℤ-idr (sumTo a f))
+sum-append f a (suc b) =
+    ap (λ (n : ℕ). sumTo n f) (add-suc a b) ∙ ap (λ (s : ℤ). s +ℤ f (a + b)) (sum-append f a b) ∙ +ℤ-assoc (sumTo a f) (sumTo b (λ j. f (a + j))) (f (a + b))
+
+-- row by row
+sum-rows : (f : ℕ → ℤ) (m n : ℕ) → sumTo (m * n) f ≡ sumTo m (λ y. sumTo n (λ x. f (y * n + x)))
+unfolding sumTo
+sum-rows f zero n = ap (λ (k : ℕ). sumTo k f) (zero-mul n)
+sum-rows f (suc m) n =
+    ap (λ (k : ℕ). sumTo k f) (suc-mul m n) ∙ sum-append f (m * n) n ∙ ap (λ (s : ℤ). s +ℤ sumTo n (λ x. f (m * n + x))) (sum-rows f m n)
+
+pairs : (a b c d e f g h : ℤ) → (((((((pos 0 +ℤ a) +ℤ b) +ℤ c) +ℤ d) +ℤ e) +ℤ f) +ℤ g) +ℤ h ≡ (((pos 0 +ℤ (a +ℤ h)) +ℤ (b +ℤ g)) +ℤ (c +ℤ f)) +ℤ (d +ℤ e)
+pairs a b c d e f g h = simp (+ℤ-assoc, +ℤ-comm, +ℤ-left-comm)
+
+-- the second half of eight terms, from the last on, beside the first
+halves : (f : ℕ → ℤ) → sumTo 8 f ≡ sumTo 4 (λ x. f x +ℤ f (7 - x))
+unfolding sumTo
+halves f = pairs (f 0) (f 1) (f 2) (f 3) (f 4) (f 5) (f 6) (f 7)
+
+-- ---- signs
+
+signed-* : (t : Bool) (a b : ℤ) → a *ℤ signed t b ≡ signed t a *ℤ b
+unfolding signed
+signed-* true a b = *ℤ-negℤ a b ∙ sym (negℤ-*ℤ a b)
+signed-* false a b = refl
+
+-- c·b and d·b with its sign, together
+gather : (t : Bool) (c d b : ℤ) → c *ℤ b +ℤ d *ℤ signed t b ≡ (c +ℤ signed t d) *ℤ b
+gather t c d b = ap (λ (z : ℤ). c *ℤ b +ℤ z) (signed-* t d b) ∙ sym (+ℤ-*ℤ c (signed t d) b)
+
+-- below 4 nothing is mirrored
+inside : (n x y : ℕ) → x < 4 → y < 4 → basis n x y ≡ entry n y x
+unfolding basis signed mirrors near
+inside n x y h k = simp (le-ltb 3 x (omega arith), le-ltb 3 y (omega arith)) refl
+
+module _ (centre : ℕ) (block : List ℕ) (n : ℕ) where
+  abbrev c : ℕ → ℕ → ℤ
+  c = centred centre block
+
+  abbrev u : Bool
+  u = odd (n % 8)
+
+  abbrev v : Bool
+  v = odd (n / 8)
+
+  -- a row's eight terms are four
+  row : (y : ℕ) → sumTo 8 (λ x. c x y *ℤ basis n x y) ≡ sumTo 4 (λ x. (c x y +ℤ signed u (c (7 - x) y)) *ℤ basis n x y)
+  row y =
+      halves (λ x. c x y *ℤ basis n x y)
+      ∙ sum-ext 4 _ _ (λ x b. ap (λ (z : ℤ). c x y *ℤ basis n x y +ℤ c (7 - x) y *ℤ z) (mirror-x n x y (omega arith)) ∙ gather u (c x y) (c (7 - x) y) (basis n x y))
+
+  sum-add : (m : ℕ) (f g : ℕ → ℤ) → sumTo m f +ℤ sumTo m g ≡ sumTo m (λ x. f x +ℤ g x)
+  unfolding sumTo
+  sum-add zero f g = refl
+  sum-add (suc m) f g = cross (sumTo m f) (f m) (sumTo m g) (g m) ∙ ap (λ (z : ℤ). z +ℤ (f m +ℤ g m)) (sum-add m f g)
+    where
+      cross : (a b p q : ℤ) → (a +ℤ b) +ℤ (p +ℤ q) ≡ (a +ℤ p) +ℤ (b +ℤ q)
+      cross a b p q = simp (+ℤ-assoc, +ℤ-left-comm)
+
+  -- a sample of a row, with its mirror
+  abbrev d : ℕ → ℕ → ℤ
+  d x y = c x y +ℤ signed u (c (7 - x) y)
+
+  abbrev half : ℕ → ℤ
+  half y = sumTo 4 (λ x. d x y *ℤ basis n x y)
+
+  -- two rows' four terms are four terms of the fold
+  rows : (y : ℕ) → y < 4 → half y +ℤ half (7 - y) ≡ sumTo 4 (λ x. folded centre block u v x y *ℤ entry n y x)
+  unfolding folded
+  rows y b =
+      sum-add 4 (λ x. d x y *ℤ basis n x y) (λ x. d x (7 - y) *ℤ basis n x (7 - y))
+      ∙ sum-ext 4 _ _ (λ x a.
+      ap (λ (z : ℤ). d x y *ℤ basis n x y +ℤ d x (7 - y) *ℤ z) (mirror-y n x y (omega arith)) ∙ gather v (d x y) (d x (7 - y)) (basis n x y)
+      ∙ ap (λ (z : ℤ). (d x y +ℤ signed v (d x (7 - y))) *ℤ z) (inside n x y a b))
+
+  -- folding does not change S
+  pub fold-sum : scaledSum centre block n ≡ foldedSum centre block n
+  unfolding scaledSum foldedSum
+  fold-sum =
+      let F : ℕ → ℤ = λ i. c (i % 8) (i / 8) *ℤ basis n (i % 8) (i / 8) in
+      let G : ℕ → ℤ = λ k. folded centre block u v (k % 4) (k / 4) *ℤ entry n (k / 4) (k % 4) in
+      sum-rows F 8 8
+      ∙ sum-ext 8 _ _ (λ y b. sum-ext 8 _ _ (λ x a.
+      let q : (y * 8 + x) / 8 ≡ y = omega arith in
+      let r : (y * 8 + x) % 8 ≡ x = omega arith in
+      λ i. c (r i) (q i) *ℤ basis n (r i) (q i)) ∙ row y)
+      ∙ halves half
+      ∙ sum-ext 4 _ _ (λ y b. rows y b ∙ sum-ext 4 _ _ (λ x a.
+      let q : y ≡ (y * 4 + x) / 4 = omega arith in
+      let r : x ≡ (y * 4 + x) % 4 = omega arith in
+      λ i. folded centre block u v (r i) (q i) *ℤ entry n (q i) (r i)))
+      ∙ sym (sum-rows G 4 4)
