@@ -1,0 +1,41 @@
+-- `fdct::fold_at` meets its contract. Assumes nothing.
+use Prim.Native.Nat.{_≤_}
+use borrow.Author.Needs.{needs}
+use native.Mathlib.Omega.{arith}
+use lib.IntN.{natAbs}
+use Rattle.forward.specs.Forward.{folded, centred}
+use Rattle.fdct.proofs.Small.{call-small, call-pair}
+use Rattle.fdct.proofs.fold_at.Statement.{statement}
+use Rattle.fdct.proofs.fold_at.Tie as tie
+
+pair-requires : tie.Need-pair-requires
+pair-requires c κs = let a = c .before .pair-at in let b = c .pair-at2 in call-small (a .result) (b .result) 256 (a .ensures .1) (b .ensures .1) (omega arith)
+
+returns : tie.Need-returns
+unfolding folded centred
+returns c =
+    let b = c .before .pair-at2 in
+    let a = c .before .before .pair-at in
+    let s = c .before .before .before .before in
+    call-pair (a .result) (b .result) 256 (a .ensures .1) (b .ensures .1) (omega arith) (s .args .v-odd) (c .pair .result) _ _ (a .ensures .0) (b .ensures .0) (c .pair .ensures)
+
+pub fold-at-spec : {M : Type 1} → statement M
+fold-at-spec =
+    tie.close
+    (tie.spec
+    (λ c. omega arith)
+    (λ c. omega arith)
+    (λ c. omega arith)
+    (λ c. omega arith)
+    (λ c. omega arith)
+    (λ c κs. search needs)
+    (λ c. omega arith)
+    (λ c. omega arith)
+    (λ c. omega arith)
+    (λ c. omega arith)
+    (λ c. omega arith)
+    (λ c. omega arith)
+    (λ c. omega arith)
+    (λ c κs. search needs)
+    pair-requires
+    returns)

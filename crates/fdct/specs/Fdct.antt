@@ -1,0 +1,22 @@
+-- Document 01, leaf 4 and "Refusing calls": what the canonical forward entries answer and write.
+use mathlib.Core.Bool.{cond}
+use mathlib.Core.List.{List}
+use Prim.Native.Nat.{ℕ}
+use lib.Dec.{eqb}
+use lib.ListN.{length, getD}
+use lib.IntN.{ℤ}
+use Rattle.lists.specs.Tab.{tab}
+use Rattle.forward.specs.Forward.{scaledSum}
+use Rattle.quantize.specs.Quantize.{coefficient}
+
+-- the 64 coefficients of a block of 8-bit samples under a table of quantizers, in natural order
+unfoldable pub coefficients : List ℕ → List ℕ → List ℤ
+coefficients block quant = tab 64 (λ n. coefficient (scaledSum 128 block n) (getD quant n 0))
+
+-- 1, a block not of 64 places; 2, a table not of 64; 3, an output not of 64
+unfoldable pub status : List ℕ → List ℕ → List ℤ → ℕ
+status block quant out = cond (eqb (length block) 64) (cond (eqb (length quant) 64) (cond (eqb (length out) 64) 0 3) 2) 1
+
+-- what the output holds after the call
+unfoldable pub after : List ℕ → List ℕ → List ℤ → List ℤ
+after block quant out = cond (eqb (length block) 64) (cond (eqb (length quant) 64) (cond (eqb (length out) 64) (coefficients block quant) out) out) out
