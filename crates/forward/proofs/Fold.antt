@@ -14,7 +14,7 @@ use Rattle.basis.proofs.Mirror.{mirror-x, mirror-y}
 use Rattle.forward.specs.Sum.{sumTo}
 use Rattle.forward.specs.Forward.{centred, scaledSum, odd, folded, foldedSum}
 
-sum-ext : (n : ℕ) (f g : ℕ → ℤ) → ((i : ℕ) → i < n → f i ≡ g i) → sumTo n f ≡ sumTo n g
+pub sum-ext : (n : ℕ) (f g : ℕ → ℤ) → ((i : ℕ) → i < n → f i ≡ g i) → sumTo n f ≡ sumTo n g
 unfolding sumTo
 sum-ext zero f g h = refl
 sum-ext (suc n) f g h = λ i. sum-ext n f g (λ k b. h k (omega arith)) i +ℤ h n (omega arith) i
