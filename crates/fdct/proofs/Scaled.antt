@@ -1,17 +1,18 @@
 -- The 16-term sum of a block's fold is S, and is at most 2^42.
 -- Assumes nothing.
-use mathlib.Core.Path.{_≡_, sym, ap, _∙_}
+use mathlib.Core.Path.{_≡_, refl, sym, ap, _∙_}
 use mathlib.Core.List.{List}
 use Prim.Native.Nat.{ℕ, zero, suc, _+_, _*_, _/_, _%_, _^_, _<_, _≤_}
 use native.Mathlib.Nat.{le-trans, mul-le-mul-right}
 use native.Mathlib.Omega.{arith}
 use lib.Dec.{T, leb, leb→le}
 use lib.ListN.{getD}
-use lib.IntN.{ℤ, pos, natAbs, _+ℤ_, _*ℤ_}
-use mir.Syntax.{w64}
+use lib.IntN.{ℤ, pos, negsuc, natAbs, _+ℤ_, _*ℤ_}
+use mir.Syntax.{w16, w64}
+use mir.Val.{SFits}
 use Rattle.integers.specs.Wrap.{wrap}
 use Rattle.integers.proofs.Wrap.{wrap-id}
-use Rattle.integers.proofs.Ring.{natAbs-+, natAbs-*}
+use Rattle.integers.proofs.Ring.{natAbs-+, natAbs-*, natAbs-neg}
 use Rattle.lists.specs.Tab.{tab}
 use Rattle.lists.proofs.Tab.{getD-tab}
 use Rattle.lists.proofs.Below.{below, below-at}
@@ -20,6 +21,8 @@ use Rattle.basis.specs.Basis.{signed, negated, reduced, factor, cosineOf, entry
 use Rattle.forward.specs.Sum.{sumTo}
 use Rattle.forward.specs.Forward.{scaledSum, odd, folded, foldedSum}
 use Rattle.forward.proofs.Fold.{fold-sum, sum-ext}
+use Rattle.quantize.specs.Quantize.{divisorOf, rounded, withSign, coefficient}
+use Rattle.quantize.proofs.Halves.{rounded-steps, quotient-fits}
 use Rattle.fdct.proofs.Small.{small-fits}
 
 -- the sizes of g 0 .. g (n - 1), together
@@ -67,3 +70,17 @@ module _ (block : List ℕ) (n : ℕ) (h : n < 64) where
 
     pub scaled : wrap w64 (sumTo 16 (λ k. getD (tab 16 f) k (pos 0) *ℤ getD basisTable (16 * n + k) (pos 0))) ≡ scaledSum 128 block n
     scaled = ap (wrap w64) (sum ∙ sym (fold-sum 128 block n)) ∙ wrap-id w64 _ (small-fits w64 _ (omega (arith, scaled-size)))
+
+sign-size : (S : ℤ) (k : ℕ) → natAbs (withSign S k) ≡ k
+unfolding withSign
+sign-size (pos n) k = refl
+sign-size (negsuc n) k = natAbs-neg (pos k)
+
+-- a coefficient of such a sum is a 16-bit number
+pub coefficient-fits : (S : ℤ) (q : ℕ) → q < 256 → natAbs S ≤ 2 ^ 42 → SFits w16 (coefficient S q)
+unfolding coefficient divisorOf
+coefficient-fits S q b h =
+    let d = divisorOf q in
+    let low : 0 < d = omega arith in
+    let high : d < 256 = omega arith in
+    small-fits w16 _ (omega (arith, sign-size S (rounded (natAbs S) (d * 2 ^ 32)), rounded-steps (natAbs S) d low, quotient-fits (natAbs S) d h low high))

@@ -12,7 +12,8 @@ ghost use Rattle.integers.specs.Wrap.{wrap};
 ghost use Rattle.lists.specs.Tab.{tab};
 ghost use Rattle.basis.specs.Basis.{signed};
 ghost use Rattle.forward.specs.Sum.{sumTo};
-ghost use Rattle.forward.specs.Forward.{folded};
+ghost use Rattle.forward.specs.Forward.{folded, scaledSum};
+ghost use Rattle.quantize.specs.Quantize.{coefficient};
 ghost use Rattle.fdct.specs.Fdct.{coefficients, status, after};
 use basis::basis_table;
 use quantize::quantize;
@@ -94,4 +95,16 @@ pub fn scaled_coefficient(f: &[i32; 16], table: &[i32; 1024], n: usize) -> i64
         k += 1;
     }
     s
+}
+
+// Coefficient n of a block, by the one fold that it needs.
+fn coefficient_at(block: &[u8], quantizer: u8, n: usize) -> i16
+    requires { ⌜ length (now block) ≡ 64 ⌝ }
+    requires { ⌜ n < 64 ⌝ }
+    ensures { λ r. ⌜ r ≡ coefficient (scaledSum 128 (now (block .entry)) n) quantizer ⌝ }
+{
+    let table = basis_table();
+    let f = fold(block, n % 8 % 2 == 1, n / 8 % 2 == 1);
+    let scaled = scaled_coefficient(&f, &table, n);
+    quantize(scaled, quantizer)
 }
