@@ -8,8 +8,7 @@ use native.Mathlib.Omega.{arith}
 use lib.Dec.{T, leb, leb→le}
 use lib.ListN.{getD}
 use lib.IntN.{ℤ, pos, negsuc, natAbs, _+ℤ_, _*ℤ_}
-use mir.Syntax.{w16, w64}
-use mir.Val.{SFits}
+use mir.Syntax.{w64}
 use Rattle.integers.specs.Wrap.{wrap}
 use Rattle.integers.proofs.Wrap.{wrap-id}
 use Rattle.integers.proofs.Ring.{natAbs-+, natAbs-*, natAbs-neg}
@@ -76,11 +75,11 @@ unfolding withSign
 sign-size (pos n) k = refl
 sign-size (negsuc n) k = natAbs-neg (pos k)
 
--- a coefficient of such a sum is a 16-bit number
-pub coefficient-fits : (S : ℤ) (q : ℕ) → q < 256 → natAbs S ≤ 2 ^ 42 → SFits w16 (coefficient S q)
+-- a coefficient of such a sum is far within 16 bits
+pub coefficient-small : (S : ℤ) (q : ℕ) → q < 256 → natAbs S ≤ 2 ^ 42 → natAbs (coefficient S q) < 2 ^ 15
 unfolding coefficient divisorOf
-coefficient-fits S q b h =
+coefficient-small S q b h =
     let d = divisorOf q in
     let low : 0 < d = omega arith in
     let high : d < 256 = omega arith in
-    small-fits w16 _ (omega (arith, sign-size S (rounded (natAbs S) (d * 2 ^ 32)), rounded-steps (natAbs S) d low, quotient-fits (natAbs S) d h low high))
+    omega (arith, sign-size S (rounded (natAbs S) (d * 2 ^ 32)), rounded-steps (natAbs S) d low, quotient-fits (natAbs S) d h low high)

@@ -2,12 +2,13 @@
 use mathlib.Core.Bool.{cond}
 use mathlib.Core.List.{List}
 use Prim.Native.Nat.{ℕ}
-use lib.Dec.{eqb}
+use lib.Dec.{eqb, leb}
 use lib.ListN.{length, getD}
-use lib.IntN.{ℤ}
+use lib.IntN.{ℤ, pos}
 use Rattle.lists.specs.Tab.{tab}
 use Rattle.forward.specs.Forward.{scaledSum}
 use Rattle.quantize.specs.Quantize.{coefficient}
+use Rattle.fdct.specs.declared.Coefficient.{Coefficient}
 
 -- the 64 coefficients of a block of 8-bit samples under a table of quantizers, in natural order
 unfoldable pub coefficients : List ℕ → List ℕ → List ℤ
@@ -20,3 +21,10 @@ status block quant out = cond (eqb (length block) 64) (cond (eqb (length quant) 
 -- what the output holds after the call
 unfoldable pub after : List ℕ → List ℕ → List ℤ → List ℤ
 after block quant out = cond (eqb (length block) 64) (cond (eqb (length quant) 64) (cond (eqb (length out) 64) (coefficients block quant) out) out) out
+
+-- one coefficient; 1, a block not of 64 places; 4, an index above 63; a refusal's value is 0
+unfoldable pub coefficientAnswer : List ℕ → ℕ → ℕ → Coefficient
+coefficientAnswer block quantizer n =
+    cond (eqb (length block) 64)
+    (cond (leb n 63) (record { status = 0; value = coefficient (scaledSum 128 block n) quantizer }) (record { status = 4; value = pos 0 }))
+    (record { status = 1; value = pos 0 })

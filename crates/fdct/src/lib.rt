@@ -4,7 +4,7 @@
 // coefficient is a 16-term sum of one fold against the basis, in units of 2^-32, then divided and rounded.
 ghost use mathlib.Core.Path.{_≡_};
 ghost use mathlib.Core.Bool.{Bool};
-ghost use Prim.Native.Nat.{ℕ, _+_, _*_, _/_, _%_, _≤_, _<_};
+ghost use Prim.Native.Nat.{ℕ, _+_, _*_, _/_, _%_, _^_, _≤_, _<_};
 ghost use lib.ListN.{length, getD};
 ghost use lib.IntN.{pos, natAbs, _+ℤ_, _-ℤ_, _*ℤ_};
 ghost use mir.Syntax.{w64};
@@ -14,11 +14,17 @@ ghost use Rattle.basis.specs.Basis.{signed};
 ghost use Rattle.forward.specs.Sum.{sumTo};
 ghost use Rattle.forward.specs.Forward.{folded, scaledSum};
 ghost use Rattle.quantize.specs.Quantize.{coefficient};
-ghost use Rattle.fdct.specs.Fdct.{coefficients, status, after};
+ghost use Rattle.fdct.specs.Fdct.{coefficients, status, after, coefficientAnswer};
 use basis::basis_table;
 use quantize::quantize;
 use word::wrapping_add_i64;
 use word::wrapping_mul_i64;
+
+// What `fdct_quantize_coefficient` answers: status 0 and the coefficient, or a refusal's number and 0.
+pub struct Coefficient {
+    pub status: u32,
+    pub value: i16,
+}
 
 // The sample less 128.
 fn centred(sample: u8) -> i32
@@ -102,9 +108,62 @@ fn coefficient_at(block: &[u8], quantizer: u8, n: usize) -> i16
     requires { ⌜ length (now block) ≡ 64 ⌝ }
     requires { ⌜ n < 64 ⌝ }
     ensures { λ r. ⌜ r ≡ coefficient (scaledSum 128 (now (block .entry)) n) quantizer ⌝ }
+    ensures { λ r. ⌜ natAbs r < 2 ^ 15 ⌝ }
 {
     let table = basis_table();
     let f = fold(block, n % 8 % 2 == 1, n / 8 % 2 == 1);
     let scaled = scaled_coefficient(&f, &table, n);
     quantize(scaled, quantizer)
+}
+
+// The 64 coefficients of a block in natural order.
+fn write_coefficients(block: &[u8], quant: &[u8], out: &mut [i16])
+    requires { ⌜ length (now block) ≡ 64 ⌝ }
+    requires { ⌜ length (now quant) ≡ 64 ⌝ }
+    requires { ⌜ length (now out) ≡ 64 ⌝ }
+    ensures { λ _. ⌜ now (out .exit) ≡ coefficients (now (block .entry)) (now (quant .entry)) ⌝ }
+{
+    let mut n = 0;
+    while n < 64 {
+        out[n] = coefficient_at(block, quant[n], n);
+        n += 1;
+    }
+}
+
+pub fn fdct_quantize(block: &[u8], quant: &[u8], out: &mut [i16]) -> u32
+    ensures { λ r. ⌜ r ≡ status (now (block .entry)) (now (quant .entry)) (now (out .entry)) ⌝ }
+    ensures { λ _. ⌜ now (out .exit) ≡ after (now (block .entry)) (now (quant .entry)) (now (out .entry)) ⌝ }
+{
+    if block.len() != 64 {
+        return 1;
+    }
+    if quant.len() != 64 {
+        return 2;
+    }
+    if out.len() != 64 {
+        return 3;
+    }
+    write_coefficients(block, quant, out);
+    0
+}
+
+pub fn fdct_quantize_coefficient(block: &[u8], quantizer: u8, natural: usize) -> Coefficient
+    ensures { λ r. ⌜ r ≡ coefficientAnswer (now (block .entry)) quantizer natural ⌝ }
+{
+    if block.len() != 64 {
+        return Coefficient {
+            status: 1,
+            value: 0,
+        };
+    }
+    if natural > 63 {
+        return Coefficient {
+            status: 4,
+            value: 0,
+        };
+    }
+    Coefficient {
+        status: 0,
+        value: coefficient_at(block, quantizer, natural),
+    }
 }

@@ -1,5 +1,5 @@
 -- `fdct::coefficient_at` meets its contract. Assumes nothing.
-use Prim.Native.Nat.{_+_, _*_, _^_, _≤_}
+use Prim.Native.Nat.{_+_, _*_, _^_, _<_, _≤_}
 use mathlib.Core.Path.{_≡_, sym, ap, subst, _∙_}
 use native.Mathlib.Omega.{arith}
 use borrow.Author.Needs.{needs}
@@ -13,7 +13,7 @@ use Rattle.forward.specs.Sum.{sumTo}
 use Rattle.forward.specs.Forward.{scaledSum}
 use Rattle.quantize.specs.Quantize.{coefficient}
 use Rattle.fdct.proofs.Small.{small-fits}
-use Rattle.fdct.proofs.Scaled.{scaled, scaled-size, coefficient-fits}
+use Rattle.fdct.proofs.Scaled.{scaled, scaled-size, coefficient-small}
 use Rattle.fdct.proofs.coefficient_at.Statement.{statement}
 use Rattle.fdct.proofs.coefficient_at.Tie as tie
 
@@ -44,7 +44,9 @@ returns : tie.Need-returns
 returns c =
     let s = c .before .before .before .before .before .before .before in
     let value = c .quantize .ensures ∙ ap (λ (z : ℤ). coefficient z (s .args .quantizer)) (read (c .before)) in
-    ap (λ (z : ℤ). toZ w16 (ofZ w16 z)) value ∙ toZ-ofZ w16 _ (coefficient-fits _ (s .args .quantizer) (s .fits .quantizer .fits) (size (c .before)))
+    let small = coefficient-small _ (s .args .quantizer) (s .fits .quantizer .fits) (size (c .before)) in
+    let kept = ap (λ (z : ℤ). toZ w16 (ofZ w16 z)) value ∙ toZ-ofZ w16 _ (small-fits w16 _ small) in
+    (kept, subst (λ (z : ℤ). natAbs z < 2 ^ 15) (sym kept) small)
 
 pub coefficient-at-spec : {M : Type 1} → statement M
 coefficient-at-spec = tie.close (tie.spec (λ c κs. search needs) (λ c κs. search needs) (λ c κs. search needs) quantize-requires returns)

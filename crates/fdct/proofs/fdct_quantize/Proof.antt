@@ -1,0 +1,21 @@
+-- `fdct::fdct_quantize` meets its contract. Assumes nothing.
+use borrow.Author.Needs.{needs}
+use Rattle.fdct.proofs.Entry.{bad-block, bad-quant, bad-output, done}
+use Rattle.fdct.proofs.fdct_quantize.Statement.{statement}
+use Rattle.fdct.proofs.fdct_quantize.Tie as tie
+
+returns-4 : tie.Need-returns-4
+returns-4 c =
+    let t = c .before .before .before in
+    done _ _ _ (t .before .before .if1 .left) (t .before .if2 .left) (t .if3 .left) (c .before .write-coefficients .ensures)
+
+pub fdct-quantize-spec : {M : Type 1} → statement M
+fdct-quantize-spec =
+    tie.close
+    (tie.spec
+    (λ c. bad-block _ _ _ (c .if1 .taken))
+    (λ c. bad-quant _ _ _ (c .before .if1 .left) (c .if2 .taken))
+    (λ c. bad-output _ _ _ (c .before .before .if1 .left) (c .before .if2 .left) (c .if3 .taken))
+    (λ c κs. search needs)
+    (λ c. search needs)
+    returns-4)
