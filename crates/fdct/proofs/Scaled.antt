@@ -17,7 +17,7 @@ use Rattle.lists.proofs.Tab.{getD-tab}
 use Rattle.lists.proofs.Below.{below, below-at}
 use Rattle.basis.specs.Cosine.{cosines}
 use Rattle.basis.specs.Basis.{signed, negated, reduced, factor, cosineOf, entry, basisTable}
-use Rattle.forward.specs.Sum.{sumTo}
+use Rattle.forward.specs.Sum.{sumTo, total}
 use Rattle.forward.specs.Forward.{scaledSum, odd, folded, foldedSum}
 use Rattle.forward.proofs.Fold.{fold-sum, sum-ext}
 use Rattle.quantize.specs.Quantize.{divisorOf, rounded, withSign, coefficient}
@@ -25,13 +25,12 @@ use Rattle.quantize.proofs.Halves.{rounded-steps, quotient-fits}
 use Rattle.fdct.proofs.Small.{small-fits}
 
 -- the sizes of g 0 .. g (n - 1), together
-unfoldable sizes : ℕ → (ℕ → ℤ) → ℕ
-sizes zero g = 0
-sizes (suc n) g = sizes n g + natAbs (g n)
+abbrev sizes : ℕ → (ℕ → ℤ) → ℕ
+sizes n g = total n (λ k. natAbs (g k))
 
 -- a sum of products whose first factors are at most 512
 natAbs-sum : (n : ℕ) (f g : ℕ → ℤ) → ((k : ℕ) → k < n → natAbs (f k) ≤ 512) → natAbs (sumTo n (λ k. f k *ℤ g k)) ≤ 512 * sizes n g
-unfolding sumTo sizes
+unfolding sumTo total
 natAbs-sum zero f g h = omega arith
 natAbs-sum (suc n) f g h =
     let rest = natAbs-sum n f g (λ k b. h k (omega arith)) in
@@ -41,7 +40,7 @@ natAbs-sum (suc n) f g h =
 
 -- the 16 entries of each frequency, computed
 entries-small : (n : ℕ) → n < 64 → sizes 16 (λ k. entry n (k / 4) (k % 4)) ≤ 2 ^ 33
-unfolding below sizes entry signed negated reduced factor cosineOf cosines
+unfolding below total entry signed negated reduced factor cosineOf cosines
 entries-small n h = leb→le _ _ (below-at 64 (λ m. leb (sizes 16 (λ k. entry m (k / 4) (k % 4))) (2 ^ 33)) tt n h)
 
 module _ (block : List ℕ) (n : ℕ) (h : n < 64) where
