@@ -4,11 +4,10 @@ use mathlib.Core.Path.{_≡_, refl, sym, ap, _∙_}
 use mathlib.Core.Bool.{Bool, true, _&&_}
 use mathlib.Core.List.{List, [], _∷_, map}
 use Prim.Native.Nat.{ℕ, zero, suc, _+_, _-_, _*_, _/_, _%_, _^_, _<_, _≤_, zero-le}
-use native.Mathlib.Decide.{decLt}
 use native.Mathlib.Nat.{le-trans, lt-of-le-of-lt, div-le-self}
 use native.Mathlib.Omega.{arith}
 use lib.Dec.{T, ltb, ltb→lt}
-use lib.ListN.{length, getD, List·getD-eq-default}
+use lib.ListN.{getD}
 use lib.IntN.{ℤ, pos, negsuc, natAbs, _+ℤ_}
 use mir.Facts.{and-yes}
 use mir.Syntax.{Width, w32, w64}
@@ -19,7 +18,7 @@ use Rattle.integers.specs.Linear.{dot, transform, weight}
 use Rattle.integers.proofs.Ring.{natAbs-+}
 use Rattle.integers.proofs.Bound.{natAbs-dot, mag-le, wrap-dot}
 use Rattle.lists.specs.Tab.{tab}
-use Rattle.lists.proofs.Tab.{length-tab, getD-tab, tab-ext}
+use Rattle.lists.proofs.Tab.{getD-tab, getD-every, tab-ext}
 use Rattle.gains.specs.Gains.{mirror, mirrored, upper, gains, upper4, gains4, upper2, gains2}
 use Rattle.scaling.specs.Scaling.{descaled, sample12bit}
 use Rattle.scaling.proofs.Rounding.{descaled-exact}
@@ -69,13 +68,7 @@ module _ (p : List ℤ) (B : ℕ) (h : (k : ℕ) → natAbs (getD p k (pos 0)) �
 -- ---- the blocks
 
 pub tab-at-most : (B n : ℕ) (f : ℕ → ℤ) → ((k : ℕ) → k < n → natAbs (f k) ≤ B) → AtMost B (tab n f)
-tab-at-most B n f h k = go (decLt k n)
-  where
-    go : Dec (k < n) → natAbs (getD (tab n f) k (pos 0)) ≤ B
-    go (yes b) = rw (getD-tab n f (pos 0) k b) (h k b)
-    go (no b) =
-        let out : length (tab n f) ≤ k = omega (arith, length-tab n f) in
-        rw (List·getD-eq-default (tab n f) (pos 0) out) zero-le
+tab-at-most B n f h = getD-every (λ (z : ℤ). natAbs z ≤ B) n f (pos 0) zero-le h
 
 pub column-at-most : (B : ℕ) (xs : List ℤ) → AtMost B xs → (u : ℕ) → AtMost B (columnOf xs u)
 unfolding columnOf

@@ -1,3 +1,3 @@
 pub mod Small
-pub mod Scaled
+pub mod Block
 pub mod Entry

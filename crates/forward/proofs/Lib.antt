@@ -1,1 +1,3 @@
-pub mod Fold
+pub mod Folding
+pub mod Scaled
+pub mod Parity

@@ -29,7 +29,10 @@ pub mag-le : (z : ℤ) → mag z ≤ natAbs z
 mag-le (pos n) = le-refl n
 mag-le (negsuc n) = omega arith
 
+pub small-fits : (w : Width) (z : ℤ) → natAbs z < 2 ^ hbits w → SFits w z
+small-fits w z h = record { sfits = lt-of-le-of-lt (mag-le z) h }
+
 -- where the whole sum fits, nothing wraps
 pub wrap-dot : (w : Width) (u xs : List ℤ) (B : ℕ) → ((k : ℕ) → natAbs (getD xs k (pos 0)) ≤ B) → weight u * B < 2 ^ hbits w → wrap w (dot u xs) ≡ dot u xs
 wrap-dot w u xs B h l =
-    wrap-id w (dot u xs) (record { sfits = lt-of-le-of-lt (mag-le (dot u xs)) (lt-of-le-of-lt (natAbs-dot u xs B h) l) })
+    wrap-id w (dot u xs) (small-fits w (dot u xs) (lt-of-le-of-lt (natAbs-dot u xs B h) l))

@@ -1,7 +1,7 @@
 -- Lists by their elements, and the law of a loop that fills one from the front.
 -- Assumes nothing.
 use Prim.Native.Nat.{ℕ, zero, suc, _+_, _≤_, _<_}
-use mathlib.Core.Path.{_≡_, refl, sym, ap, _∙_}
+use mathlib.Core.Path.{_≡_, refl, sym, ap, subst, _∙_}
 use mathlib.Core.Bool.{Bool, true, false}
 use mathlib.Core.List.{List, [], _∷_, _++_, map, append-assoc, append-nil}
 use native.Mathlib.Decide.{decLt}
@@ -10,7 +10,7 @@ use native.Mathlib.Numerals.{add-one}
 use native.Mathlib.Omega.{arith}
 use borrow.Author.Tests.{eqb-true, eqb-false}
 use lib.Dec.{eqb}
-use lib.ListN.{length, take, set, getD, length-set, length-append, List·getD-append}
+use lib.ListN.{length, take, set, getD, length-set, length-append, List·getD-append, List·getD-eq-default}
 use lib.Seq.{take-all, take-suc, take-suc-set, getD-at, ext-getD, getD-set-same, getD-set-other, getD-drop, paste, length-paste, take-paste, drop-paste}
 use Rattle.lists.specs.Tab.{tab}
 
@@ -64,6 +64,16 @@ getD-tab (suc n) f d i h = go (decLt i n) (getD-tab n f d i)
     go (no b) e =
         let q : i ≡ n = omega arith in
         rw q (getD-at (tab n f) (f n) [] d n (length-tab n f))
+
+-- what holds of the default and of each element holds at any place
+pub getD-every : {A : Type 0} (P : A → Type 0) (n : ℕ) (f : ℕ → A) (d : A) → P d → ((i : ℕ) → i < n → P (f i)) → (k : ℕ) → P (getD (tab n f) k d)
+getD-every P n f d hd h k = go (decLt k n)
+  where
+    go : Dec (k < n) → P (getD (tab n f) k d)
+    go (yes b) = subst P (sym (getD-tab n f d k b)) (h k b)
+    go (no b) =
+        let out : length (tab n f) ≤ k = omega (arith, length-tab n f) in
+        subst P (sym (List·getD-eq-default (tab n f) d out)) hd
 
 pub tab-ext : {A : Type 0} (n : ℕ) (f g : ℕ → A) → ((i : ℕ) → i < n → f i ≡ g i) → tab n f ≡ tab n g
 unfolding tab

@@ -1,18 +1,19 @@
 -- Rounding by adding half the divisor: what the code computes.
 -- Assumes nothing.
-use mathlib.Core.Path.{_≡_, refl, sym, ap, _∙_}
+use mathlib.Core.Path.{_≡_, refl, sym, ap, subst, _∙_}
 use mathlib.Core.Bool.{Bool, true, false, cond}
 use Prim.Native.Nat.{ℕ, zero, suc, _+_, _*_, _/_, _%_, _^_, _<_, _≤_}
 use native.Mathlib.Decide.{decLe}
-use native.Mathlib.Nat.{div-add-mod', mod-lt, mul-add-div-right, div-eq-of-lt, div-eq-of-lt-le, div-div-eq-div-mul, div-le-self}
+use native.Mathlib.Nat.{div-add-mod', mod-lt, mul-add-div-right, div-eq-of-lt, div-eq-of-lt-le, div-div-eq-div-mul, div-lt-iff-lt-mul}
 use native.Mathlib.Omega.{arith}
 use borrow.Author.Tests.{le-leb, lt-leb, ltb-true}
 use lib.Dec.{leb}
-use lib.IntN.{ℤ, pos, negsuc, negℤ, _-ℤ_, +ℤ-idl}
+use lib.IntN.{ℤ, pos, negsuc, negℤ, natAbs, _-ℤ_, +ℤ-idl}
 use lib.Signed.{ltZ}
 use mir.Syntax.{w16, w64}
 use mir.Val.{SFits, toZ, ofZ}
 use mir.ValLaws.{toZ-ofZ, toZ-pos}
+use Rattle.integers.proofs.Ring.{natAbs-neg}
 use Rattle.quantize.specs.Quantize.{rounded, withSign}
 
 -- half of m added, then divided
@@ -39,9 +40,12 @@ rounded-steps a d p =
 
 -- ---- as the code has them: a is the size of S, d the divisor
 
-module _ (a d : ℕ) (bound : a ≤ 2 ^ 42) (least : 0 < d) (most : d < 256) where
+module _ (a d : ℕ) (bound : a ≤ 2 ^ 46) (least : 0 < d) (most : d < 2 ^ 16) where
+  pub size-fits : (a + d * 2 ^ 31) / 2 ^ 32 < 2 ^ 16
+  size-fits = omega arith
+
   pub quotient-fits : (a + d * 2 ^ 31) / 2 ^ 32 / d < 2 ^ 15
-  quotient-fits = omega (arith, div-le-self ((a + d * 2 ^ 31) / 2 ^ 32) d)
+  quotient-fits = div-lt-iff-lt-mul least .1 (omega arith)
 
 neg-fits : (n : ℕ) → n < 2 ^ 15 → SFits w16 (negℤ (pos n))
 neg-fits zero h = record { sfits = h }
@@ -56,6 +60,15 @@ above : (S : ℤ) (n : ℕ) → ltZ S (pos 0) ≡ false → pos n ≡ withSign S
 unfolding withSign
 above (pos k) n t = refl
 above (negsuc k) n t = let e : _≡_ {A = ℕ} 0 1 = cc in absurd (omega arith)
+
+pub sign-size : (S : ℤ) (k : ℕ) → natAbs (withSign S k) ≡ k
+unfolding withSign
+sign-size (pos n) k = refl
+sign-size (negsuc n) k = natAbs-neg (pos k)
+
+-- what the code gives for the sign, with its size
+pub sized : (S : ℤ) {r : ℤ} {n m : ℕ} → n < 2 ^ 15 → r ≡ withSign S n → n ≡ m → (r ≡ withSign S m) × (natAbs r < 2 ^ 15)
+sized S {n} h e steps = (e ∙ ap (withSign S) steps, subst (λ (z : ℤ). natAbs z < 2 ^ 15) (sym e) (omega (arith, sign-size S n)))
 
 module _ {n : ℕ} (h : n < 2 ^ 15) where
   opposite : pos 0 -ℤ toZ w16 n ≡ negℤ (pos n)

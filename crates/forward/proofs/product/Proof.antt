@@ -1,12 +1,12 @@
--- `fdct::product` meets its contract. Assumes nothing.
+-- `forward::product` meets its contract. Assumes nothing.
 use mathlib.Core.Path.{_∙_}
 use lib.IntN.{_*ℤ_}
 use mir.Syntax.{w32, w64}
 use Rattle.integers.specs.Wrap.{wrap}
 use Rattle.integers.proofs.Wrap.{wrap-read}
 use Rattle.integers.proofs.Word.{widens, widened}
-use Rattle.fdct.proofs.product.Statement.{statement}
-use Rattle.fdct.proofs.product.Tie as tie
+use Rattle.forward.proofs.product.Statement.{statement}
+use Rattle.forward.proofs.product.Tie as tie
 
 returns : tie.Need-returns
 returns c =

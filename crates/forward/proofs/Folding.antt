@@ -7,12 +7,14 @@ use Prim.Native.Nat.{ℕ, zero, suc, _+_, _-_, _*_, _/_, _%_, _<_}
 use native.Mathlib.Nat.{add-zero, add-suc, zero-mul, suc-mul}
 use native.Mathlib.Omega.{arith}
 use borrow.Author.Tests.{le-ltb}
-use lib.IntN.{ℤ, pos, negℤ, _+ℤ_, _*ℤ_, +ℤ-assoc, +ℤ-comm, +ℤ-idr}
+use lib.ListN.{getD}
+use lib.IntN.{ℤ, pos, negℤ, _+ℤ_, _-ℤ_, _*ℤ_, +ℤ-assoc, +ℤ-comm, +ℤ-idr}
 use Rattle.integers.proofs.Ring.{+ℤ-left-comm, +ℤ-*ℤ, negℤ-*ℤ, *ℤ-negℤ}
+use Rattle.lists.proofs.Tab.{getD-tab}
 use Rattle.basis.specs.Basis.{signed, entry, near, mirrors, basis}
 use Rattle.basis.proofs.Mirror.{mirror-x, mirror-y}
 use Rattle.forward.specs.Sum.{sumTo}
-use Rattle.forward.specs.Forward.{centred, scaledSum, odd, folded, foldedSum}
+use Rattle.forward.specs.Forward.{centred, scaledSum, centredBlock, centredSum, odd, at, folded, foldedSum}
 
 pub sum-ext : (n : ℕ) (f g : ℕ → ℤ) → ((i : ℕ) → i < n → f i ≡ g i) → sumTo n f ≡ sumTo n g
 unfolding sumTo
@@ -56,9 +58,17 @@ inside : (n x y : ℕ) → x < 4 → y < 4 → basis n x y ≡ entry n y x
 unfolding basis signed mirrors near
 inside n x y h k = simp (le-ltb 3 x (omega arith), le-ltb 3 y (omega arith)) refl
 
-module _ (centre : ℕ) (block : List ℕ) (n : ℕ) where
+-- the sum of a block is that of its centred samples
+pub sum-centred : (centre : ℕ) (block : List ℕ) (n : ℕ) → centredSum (centredBlock centre block) n ≡ scaledSum centre block n
+unfolding centredSum centredBlock scaledSum centred
+sum-centred centre block n =
+    sum-ext 64 _ _ (λ i b.
+    let e : i ≡ 8 * (i / 8) + i % 8 = omega arith in
+    ap (λ (z : ℤ). z *ℤ basis n (i % 8) (i / 8)) (getD-tab 64 (λ j. pos (getD block j 0) -ℤ pos centre) (pos 0) i b ∙ ap (λ (j : ℕ). pos (getD block j 0) -ℤ pos centre) e))
+
+module _ (samples : List ℤ) (n : ℕ) where
   abbrev c : ℕ → ℕ → ℤ
-  c = centred centre block
+  c = at samples
 
   abbrev u : Bool
   u = odd (n % 8)
@@ -88,7 +98,7 @@ module _ (centre : ℕ) (block : List ℕ) (n : ℕ) where
   half y = sumTo 4 (λ x. d x y *ℤ basis n x y)
 
   -- two rows' four terms are four terms of the fold
-  rows : (y : ℕ) → y < 4 → half y +ℤ half (7 - y) ≡ sumTo 4 (λ x. folded centre block u v x y *ℤ entry n y x)
+  rows : (y : ℕ) → y < 4 → half y +ℤ half (7 - y) ≡ sumTo 4 (λ x. folded samples u v x y *ℤ entry n y x)
   unfolding folded
   rows y b =
       sum-add 4 (λ x. d x y *ℤ basis n x y) (λ x. d x (7 - y) *ℤ basis n x (7 - y))
@@ -97,19 +107,20 @@ module _ (centre : ℕ) (block : List ℕ) (n : ℕ) where
       ∙ ap (λ (z : ℤ). (d x y +ℤ signed v (d x (7 - y))) *ℤ z) (inside n x y a b))
 
   -- folding does not change S
-  pub fold-sum : scaledSum centre block n ≡ foldedSum centre block n
-  unfolding scaledSum foldedSum
+  pub fold-sum : centredSum samples n ≡ foldedSum samples n
+  unfolding centredSum foldedSum
   fold-sum =
-      let F : ℕ → ℤ = λ i. c (i % 8) (i / 8) *ℤ basis n (i % 8) (i / 8) in
-      let G : ℕ → ℤ = λ k. folded centre block u v (k % 4) (k / 4) *ℤ entry n (k / 4) (k % 4) in
+      let F : ℕ → ℤ = λ i. getD samples i (pos 0) *ℤ basis n (i % 8) (i / 8) in
+      let G : ℕ → ℤ = λ k. folded samples u v (k % 4) (k / 4) *ℤ entry n (k / 4) (k % 4) in
       sum-rows F 8 8
       ∙ sum-ext 8 _ _ (λ y b. sum-ext 8 _ _ (λ x a.
       let q : (y * 8 + x) / 8 ≡ y = omega arith in
       let r : (y * 8 + x) % 8 ≡ x = omega arith in
-      λ i. c (r i) (q i) *ℤ basis n (r i) (q i)) ∙ row y)
+      let e : y * 8 + x ≡ 8 * y + x = omega arith in
+      λ i. getD samples (e i) (pos 0) *ℤ basis n (r i) (q i)) ∙ row y)
       ∙ halves half
       ∙ sum-ext 4 _ _ (λ y b. rows y b ∙ sum-ext 4 _ _ (λ x a.
       let q : y ≡ (y * 4 + x) / 4 = omega arith in
       let r : x ≡ (y * 4 + x) % 4 = omega arith in
-      λ i. folded centre block u v (r i) (q i) *ℤ entry n (q i) (r i)))
+      λ i. folded samples u v (r i) (q i) *ℤ entry n (q i) (r i)))
       ∙ sym (sum-rows G 4 4)

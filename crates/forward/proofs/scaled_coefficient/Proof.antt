@@ -1,4 +1,4 @@
--- `fdct::scaled_coefficient` meets its contract. Assumes nothing.
+-- `forward::scaled_coefficient` meets its contract. Assumes nothing.
 use Prim.Native.Nat.{ℕ, suc, _≤_, _<_, _-_, _+_, _*_}
 use mathlib.Core.List.{List}
 use mathlib.Core.Path.{_≡_, sym, ap, _∙_}
@@ -11,9 +11,9 @@ use mir.Val.{toZ, ofZ}
 use mir.ValLaws.{toZ-ofZ}
 use Rattle.integers.specs.Wrap.{wrap}
 use Rattle.integers.proofs.Wrap.{wrap-id, wrap-read, wrap-+}
 use Rattle.forward.specs.Sum.{sumTo}
-use Rattle.fdct.proofs.scaled_coefficient.Statement.{statement}
-use Rattle.fdct.proofs.scaled_coefficient.Tie as tie
+use Rattle.forward.proofs.scaled_coefficient.Statement.{statement}
+use Rattle.forward.proofs.scaled_coefficient.Tie as tie
 
 abbrev term : List ℤ → List ℤ → ℕ → ℕ → ℤ
 term f table n k = getD f k (pos 0) *ℤ getD table (16 * n + k) (pos 0)
