@@ -3,36 +3,18 @@
 use mathlib.Core.Path.{_≡_, refl, sym, ap, _∙_}
 use mathlib.Core.Bool.{Bool, true, false}
 use mathlib.Core.List.{List}
-use Prim.Native.Nat.{ℕ, zero, suc, _+_, _-_, _*_, _/_, _%_, _<_}
-use native.Mathlib.Nat.{add-zero, add-suc, zero-mul, suc-mul}
+use Prim.Native.Nat.{ℕ, _+_, _-_, _*_, _/_, _%_, _<_}
 use native.Mathlib.Omega.{arith}
 use borrow.Author.Tests.{le-ltb}
 use lib.ListN.{getD}
-use lib.IntN.{ℤ, pos, negℤ, _+ℤ_, _-ℤ_, _*ℤ_, +ℤ-assoc, +ℤ-comm, +ℤ-idr}
+use lib.IntN.{ℤ, pos, negℤ, _+ℤ_, _-ℤ_, _*ℤ_, +ℤ-assoc, +ℤ-comm}
 use Rattle.integers.proofs.Ring.{+ℤ-left-comm, +ℤ-*ℤ, negℤ-*ℤ, *ℤ-negℤ}
 use Rattle.lists.proofs.Tab.{getD-tab}
 use Rattle.basis.specs.Basis.{signed, entry, near, mirrors, basis}
 use Rattle.basis.proofs.Mirror.{mirror-x, mirror-y}
 use Rattle.forward.specs.Sum.{sumTo}
 use Rattle.forward.specs.Forward.{centred, scaledSum, centredBlock, centredSum, odd, at, folded, foldedSum}
-
-pub sum-ext : (n : ℕ) (f g : ℕ → ℤ) → ((i : ℕ) → i < n → f i ≡ g i) → sumTo n f ≡ sumTo n g
-unfolding sumTo
-sum-ext zero f g h = refl
-sum-ext (suc n) f g h = λ i. sum-ext n f g (λ k b. h k (omega arith)) i +ℤ h n (omega arith) i
-
-sum-append : (f : ℕ → ℤ) (a b : ℕ) → sumTo (a + b) f ≡ sumTo a f +ℤ sumTo b (λ j. f (a + j))
-unfolding sumTo
-sum-append f a zero = ap (λ (n : ℕ). sumTo n f) (add-zero a) ∙ sym (+ℤ-idr (sumTo a f))
-sum-append f a (suc b) =
-    ap (λ (n : ℕ). sumTo n f) (add-suc a b) ∙ ap (λ (s : ℤ). s +ℤ f (a + b)) (sum-append f a b) ∙ +ℤ-assoc (sumTo a f) (sumTo b (λ j. f (a + j))) (f (a + b))
-
--- row by row
-sum-rows : (f : ℕ → ℤ) (m n : ℕ) → sumTo (m * n) f ≡ sumTo m (λ y. sumTo n (λ x. f (y * n + x)))
-unfolding sumTo
-sum-rows f zero n = ap (λ (k : ℕ). sumTo k f) (zero-mul n)
-sum-rows f (suc m) n =
-    ap (λ (k : ℕ). sumTo k f) (suc-mul m n) ∙ sum-append f (m * n) n ∙ ap (λ (s : ℤ). s +ℤ sumTo n (λ x. f (m * n + x))) (sum-rows f m n)
+use Rattle.forward.proofs.Sum.{sum-ext, sum-add, sum-rows}
 
 pairs : (a b c d e f g h : ℤ) → (((((((pos 0 +ℤ a) +ℤ b) +ℤ c) +ℤ d) +ℤ e) +ℤ f) +ℤ g) +ℤ h ≡ (((pos 0 +ℤ (a +ℤ h)) +ℤ (b +ℤ g)) +ℤ (c +ℤ f)) +ℤ (d +ℤ e)
 pairs a b c d e f g h = simp (+ℤ-assoc, +ℤ-comm, +ℤ-left-comm)
@@ -81,14 +63,6 @@ module _ (samples : List ℤ) (n : ℕ) where
   row y =
       halves (λ x. c x y *ℤ basis n x y)
       ∙ sum-ext 4 _ _ (λ x b. ap (λ (z : ℤ). c x y *ℤ basis n x y +ℤ c (7 - x) y *ℤ z) (mirror-x n x y (omega arith)) ∙ gather u (c x y) (c (7 - x) y) (basis n x y))
-
-  sum-add : (m : ℕ) (f g : ℕ → ℤ) → sumTo m f +ℤ sumTo m g ≡ sumTo m (λ x. f x +ℤ g x)
-  unfolding sumTo
-  sum-add zero f g = refl
-  sum-add (suc m) f g = cross (sumTo m f) (f m) (sumTo m g) (g m) ∙ ap (λ (z : ℤ). z +ℤ (f m +ℤ g m)) (sum-add m f g)
-    where
-      cross : (a b p q : ℤ) → (a +ℤ b) +ℤ (p +ℤ q) ≡ (a +ℤ p) +ℤ (b +ℤ q)
-      cross a b p q = simp (+ℤ-assoc, +ℤ-left-comm)
 
   -- a sample of a row, with its mirror
   abbrev d : ℕ → ℕ → ℤ

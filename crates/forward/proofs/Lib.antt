@@ -1,3 +1,4 @@
+pub mod Sum
 pub mod Folding
 pub mod Scaled
 pub mod Parity

@@ -3,8 +3,8 @@
 use mathlib.Core.Path.{_≡_, refl, sym, ap, subst, _∙_}
 use mathlib.Core.Bool.{Bool, true, false}
 use mathlib.Core.List.{List}
-use Prim.Native.Nat.{ℕ, zero, suc, _+_, _-_, _*_, _/_, _%_, _^_, _<_, _≤_}
-use native.Mathlib.Nat.{mul-le-mul-left, mul-le-mul-right}
+use Prim.Native.Nat.{ℕ, _+_, _-_, _*_, _/_, _%_, _^_, _<_, _≤_}
+use native.Mathlib.Nat.{le-trans, le-of-eq, mul-le-mul-left, mul-le-mul-right}
 use native.Mathlib.Omega.{arith}
 use lib.Dec.{T, leb, leb→le}
 use lib.ListN.{getD}
@@ -22,17 +22,14 @@ use Rattle.basis.specs.Cosine.{cosines}
 use Rattle.basis.specs.Basis.{signed, negated, reduced, factor, cosineOf, entry, basisTable}
 use Rattle.forward.specs.Sum.{sumTo, total}
 use Rattle.forward.specs.Forward.{centredSum, odd, at, folded, foldedSum}
-use Rattle.forward.proofs.Folding.{fold-sum, sum-ext}
+use Rattle.forward.proofs.Sum.{sum-ext, natAbs-sum, total-le, total-scale}
+use Rattle.forward.proofs.Folding.{fold-sum}
 
 -- a sum of products whose first factors are at most B
-natAbs-sum : (n B : ℕ) (f g : ℕ → ℤ) → ((k : ℕ) → k < n → natAbs (f k) ≤ B) → natAbs (sumTo n (λ k. f k *ℤ g k)) ≤ B * total n (λ k. natAbs (g k))
-unfolding sumTo total
-natAbs-sum zero B f g h = omega arith
-natAbs-sum (suc n) B f g h =
-    let rest = natAbs-sum n B f g (λ k b. h k (omega arith)) in
-    let last = mul-le-mul-right (natAbs (g n)) (h n (omega arith)) in
-    let whole : natAbs (sumTo n (λ k. f k *ℤ g k) +ℤ f n *ℤ g n) ≤ B * (total n (λ k. natAbs (g k)) + natAbs (g n)) = omega (arith, rest, last, natAbs-* (f n) (g n), natAbs-+ (sumTo n (λ k. f k *ℤ g k)) (f n *ℤ g n)) in
-    whole
+natAbs-products : (n B : ℕ) (f g : ℕ → ℤ) → ((k : ℕ) → k < n → natAbs (f k) ≤ B) → natAbs (sumTo n (λ k. f k *ℤ g k)) ≤ B * total n (λ k. natAbs (g k))
+natAbs-products n B f g h =
+    le-trans (natAbs-sum n (λ k. f k *ℤ g k))
+    (le-trans (total-le n _ _ (λ k b. omega (arith, natAbs-* (f k) (g k), mul-le-mul-right (natAbs (g k)) (h k b)))) (le-of-eq (sym (total-scale B n (λ k. natAbs (g k))))))
 
 -- the 16 entries of each frequency, computed
 entries-small : (n : ℕ) → n < 64 → total 16 (λ k. natAbs (entry n (k / 4) (k % 4))) ≤ 2 ^ 33
@@ -61,7 +58,7 @@ module _ (c : List ℤ) (m : ℕ) (small : (i : ℕ) → natAbs (getD c i (pos 0
   scaled-size n h =
       let f : ℕ → ℤ = λ k. folded c (odd (n % 8)) (odd (n / 8)) (k % 4) (k / 4) in
       let entries = mul-le-mul-left (4 * m) (entries-small n h) in
-      rw (fold-sum c n) (omega (arith, natAbs-sum 16 (4 * m) f (λ k. entry n (k / 4) (k % 4)) (λ k b. folded-size (odd (n % 8)) (odd (n / 8)) (k % 4) (k / 4)), entries))
+      rw (fold-sum c n) (omega (arith, natAbs-products 16 (4 * m) f (λ k. entry n (k / 4) (k % 4)) (λ k b. folded-size (odd (n % 8)) (odd (n / 8)) (k % 4) (k / 4)), entries))
 
 module _ (c : List ℤ) (small : (i : ℕ) → natAbs (getD c i (pos 0)) ≤ 2 ^ 11) (n : ℕ) (h : n < 64) where
   -- the table's place 16n + k

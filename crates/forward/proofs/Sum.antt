@@ -1,0 +1,169 @@
+-- Laws of finite sums, of integers (`sumTo`) and of natural numbers (`total`).
+-- Assumes nothing.
+use mathlib.Core.Path.{_≡_, refl, sym, ap, ap₂, _∙_}
+use mathlib.Core.Bool.{Bool, cond}
+use mathlib.Core.List.{List, [], _∷_, _++_}
+use Prim.Native.Nat.{ℕ, zero, suc, _+_, _*_, _≤_, _<_, zero-le}
+use native.Mathlib.Decide.{decLt}
+use native.Mathlib.Nat.{add-zero, add-suc, zero-mul, suc-mul, add-le-add}
+use native.Mathlib.Omega.{arith}
+use borrow.Author.Tests.{eq-eqb, ne-eqb}
+use lib.Dec.{eqb}
+use lib.ListN.{length}
+use lib.IntN.{ℤ, pos, natAbs, _+ℤ_, _-ℤ_, _*ℤ_, +ℤ-assoc, +ℤ-idl, +ℤ-idr, *ℤ-zero}
+use Rattle.integers.specs.Linear.{dot, weight}
+use Rattle.integers.proofs.Difference.{dif-eq, by-dif, differences}
+use Rattle.integers.proofs.Ring.{+ℤ-left-comm, *ℤ-+ℤ, natAbs-+}
+use Rattle.lists.specs.Tab.{tab}
+use Rattle.lists.proofs.Tab.{length-tab}
+use Rattle.forward.specs.Sum.{sumTo, total}
+
+-- ---- integers
+
+pub sum-ext : (n : ℕ) (f g : ℕ → ℤ) → ((i : ℕ) → i < n → f i ≡ g i) → sumTo n f ≡ sumTo n g
+unfolding sumTo
+sum-ext zero f g h = refl
+sum-ext (suc n) f g h = λ i. sum-ext n f g (λ k b. h k (omega arith)) i +ℤ h n (omega arith) i
+
+pub sum-add : (m : ℕ) (f g : ℕ → ℤ) → sumTo m f +ℤ sumTo m g ≡ sumTo m (λ i. f i +ℤ g i)
+unfolding sumTo
+sum-add zero f g = refl
+sum-add (suc m) f g = cross (sumTo m f) (f m) (sumTo m g) (g m) ∙ ap (λ (z : ℤ). z +ℤ (f m +ℤ g m)) (sum-add m f g)
+  where
+    cross : (a b p q : ℤ) → (a +ℤ b) +ℤ (p +ℤ q) ≡ (a +ℤ p) +ℤ (b +ℤ q)
+    cross a b p q = simp (+ℤ-assoc, +ℤ-left-comm)
+
+pub sum-sub : (m : ℕ) (f g : ℕ → ℤ) → sumTo m f -ℤ sumTo m g ≡ sumTo m (λ i. f i -ℤ g i)
+unfolding sumTo
+sum-sub zero f g = refl
+sum-sub (suc m) f g = cross (sumTo m f) (f m) (sumTo m g) (g m) ∙ ap (λ (z : ℤ). z +ℤ (f m -ℤ g m)) (sum-sub m f g)
+  where
+    cross : (a b p q : ℤ) → (a +ℤ b) -ℤ (p +ℤ q) ≡ (a -ℤ p) +ℤ (b -ℤ q)
+    cross = by-dif _ λ a b. by-dif _ λ c d. by-dif _ λ e f. by-dif _ λ g h. simp differences (dif-eq _ _ _ _ (omega arith))
+
+pub sum-scale : (c : ℤ) (m : ℕ) (f : ℕ → ℤ) → c *ℤ sumTo m f ≡ sumTo m (λ i. c *ℤ f i)
+unfolding sumTo
+sum-scale c zero f = *ℤ-zero c
+sum-scale c (suc m) f = *ℤ-+ℤ c (sumTo m f) (f m) ∙ ap (λ (z : ℤ). z +ℤ c *ℤ f m) (sum-scale c m f)
+
+sum-zero : (m : ℕ) → sumTo m (λ i. pos 0) ≡ pos 0
+unfolding sumTo
+sum-zero zero = refl
+sum-zero (suc m) = +ℤ-idr (sumTo m (λ i. pos 0)) ∙ sum-zero m
+
+-- the order of two sums
+pub sum-swap : (m n : ℕ) (f : ℕ → ℕ → ℤ) → sumTo m (λ i. sumTo n (f i)) ≡ sumTo n (λ j. sumTo m (λ i. f i j))
+unfolding sumTo
+sum-swap zero n f = sym (sum-zero n)
+sum-swap (suc m) n f = ap (λ (z : ℤ). z +ℤ sumTo n (f m)) (sum-swap m n f) ∙ sum-add n (λ j. sumTo m (λ i. f i j)) (f m)
+
+sum-append : (f : ℕ → ℤ) (a b : ℕ) → sumTo (a + b) f ≡ sumTo a f +ℤ sumTo b (λ j. f (a + j))
+unfolding sumTo
+sum-append f a zero = ap (λ (n : ℕ). sumTo n f) (add-zero a) ∙ sym (+ℤ-idr (sumTo a f))
+sum-append f a (suc b) =
+    ap (λ (n : ℕ). sumTo n f) (add-suc a b) ∙ ap (λ (s : ℤ). s +ℤ f (a + b)) (sum-append f a b) ∙ +ℤ-assoc (sumTo a f) (sumTo b (λ j. f (a + j))) (f (a + b))
+
+-- row by row
+pub sum-rows : (f : ℕ → ℤ) (m n : ℕ) → sumTo (m * n) f ≡ sumTo m (λ y. sumTo n (λ x. f (y * n + x)))
+unfolding sumTo
+sum-rows f zero n = ap (λ (k : ℕ). sumTo k f) (zero-mul n)
+sum-rows f (suc m) n =
+    ap (λ (k : ℕ). sumTo k f) (suc-mul m n) ∙ sum-append f (m * n) n ∙ ap (λ (s : ℤ). s +ℤ sumTo n (λ x. f (m * n + x))) (sum-rows f m n)
+
+-- one term alone, c times
+pub sum-at : (m : ℕ) (f : ℕ → ℤ) (c : ℤ) (p : ℕ) → p < m → sumTo m (λ i. f i *ℤ cond (eqb p i) c (pos 0)) ≡ f p *ℤ c
+unfolding sumTo
+sum-at zero f c p h = absurd (omega arith)
+sum-at (suc m) f c p h = go (decLt p m) (sum-at m f c p)
+  where
+    none : (k : ℕ) → k ≤ p → sumTo k (λ i. f i *ℤ cond (eqb p i) c (pos 0)) ≡ pos 0
+    none zero b = refl
+    none (suc k) b =
+        ap₂ _+ℤ_ (none k (omega arith)) (ap (λ (t : Bool). f k *ℤ cond t c (pos 0)) (ne-eqb p k (λ e. omega arith)) ∙ *ℤ-zero (f k))
+
+    go : Dec (p < m) → (p < m → sumTo m (λ i. f i *ℤ cond (eqb p i) c (pos 0)) ≡ f p *ℤ c) →
+        sumTo m (λ i. f i *ℤ cond (eqb p i) c (pos 0)) +ℤ f m *ℤ cond (eqb p m) c (pos 0) ≡ f p *ℤ c
+    go (yes l) r =
+        ap₂ _+ℤ_ (r l) (ap (λ (t : Bool). f m *ℤ cond t c (pos 0)) (ne-eqb p m (λ e. omega arith)) ∙ *ℤ-zero (f m)) ∙ +ℤ-idr (f p *ℤ c)
+    go (no l) r =
+        let e : m ≡ p = omega arith in
+        ap₂ _+ℤ_ (none m (omega arith)) (ap (λ (t : Bool). f m *ℤ cond t c (pos 0)) (eq-eqb p m (sym e)) ∙ ap (λ (k : ℕ). f k *ℤ c) e) ∙ +ℤ-idl (f p *ℤ c)
+
+-- a product of lists, by their elements
+dot-snoc : (u v : List ℤ) (a b : ℤ) → length u ≡ length v → dot (u ++ (a ∷ [])) (v ++ (b ∷ [])) ≡ dot u v +ℤ a *ℤ b
+unfolding dot
+dot-snoc [] [] a b e = +ℤ-idr (a *ℤ b) ∙ sym (+ℤ-idl (a *ℤ b))
+dot-snoc [] (y ∷ v) a b e = absurd (omega arith)
+dot-snoc (x ∷ u) [] a b e = absurd (omega arith)
+dot-snoc (x ∷ u) (y ∷ v) a b e =
+    ap (λ (z : ℤ). x *ℤ y +ℤ z) (dot-snoc u v a b (omega arith)) ∙ sym (+ℤ-assoc (x *ℤ y) (dot u v) (a *ℤ b))
+
+pub dot-tab : (m : ℕ) (f g : ℕ → ℤ) → dot (tab m f) (tab m g) ≡ sumTo m (λ i. f i *ℤ g i)
+unfolding sumTo tab dot
+dot-tab zero f g = refl
+dot-tab (suc m) f g =
+    dot-snoc (tab m f) (tab m g) (f m) (g m) (length-tab m f ∙ sym (length-tab m g)) ∙ ap (λ (z : ℤ). z +ℤ f m *ℤ g m) (dot-tab m f g)
+
+-- ---- natural numbers
+
+pub sum-pos : (m : ℕ) (f : ℕ → ℕ) → sumTo m (λ i. pos (f i)) ≡ pos (total m f)
+unfolding sumTo total
+sum-pos zero f = refl
+sum-pos (suc m) f = ap (λ (z : ℤ). z +ℤ pos (f m)) (sum-pos m f)
+
+pub natAbs-sum : (m : ℕ) (f : ℕ → ℤ) → natAbs (sumTo m f) ≤ total m (λ i. natAbs (f i))
+unfolding sumTo total
+natAbs-sum zero f = zero-le
+natAbs-sum (suc m) f = omega (arith, natAbs-+ (sumTo m f) (f m), natAbs-sum m f)
+
+pub total-ext : (m : ℕ) (f g : ℕ → ℕ) → ((i : ℕ) → i < m → f i ≡ g i) → total m f ≡ total m g
+unfolding total
+total-ext zero f g h = refl
+total-ext (suc m) f g h = ap₂ _+_ (total-ext m f g (λ i b. h i (omega arith))) (h m (omega arith))
+
+pub total-le : (m : ℕ) (f g : ℕ → ℕ) → ((i : ℕ) → i < m → f i ≤ g i) → total m f ≤ total m g
+unfolding total
+total-le zero f g h = zero-le
+total-le (suc m) f g h = add-le-add (total-le m f g (λ i b. h i (omega arith))) (h m (omega arith))
+
+-- no term is more than the sum
+pub total-term : (m : ℕ) (f : ℕ → ℕ) (p : ℕ) → p < m → f p ≤ total m f
+unfolding total
+total-term zero f p h = absurd (omega arith)
+total-term (suc m) f p h = go (decLt p m) (total-term m f p)
+  where
+    go : Dec (p < m) → (p < m → f p ≤ total m f) → f p ≤ total m f + f m
+    go (yes l) r = omega (arith, r l)
+    go (no l) r = let e : m ≡ p = omega arith in rw e (omega arith)
+
+pub total-add : (m : ℕ) (f g : ℕ → ℕ) → total m f + total m g ≡ total m (λ i. f i + g i)
+unfolding total
+total-add zero f g = refl
+total-add (suc m) f g = omega (arith, total-add m f g)
+
+pub total-scale : (c m : ℕ) (f : ℕ → ℕ) → c * total m f ≡ total m (λ i. c * f i)
+unfolding total
+total-scale c zero f = omega arith
+total-scale c (suc m) f = omega (arith, total-scale c m f)
+
+pub total-const : (m c : ℕ) → total m (λ i. c) ≡ m * c
+unfolding total
+total-const zero c = omega arith
+total-const (suc m) c = omega (arith, total-const m c)
+
+-- the sizes of a list, by its elements
+weight-snoc : (u : List ℤ) (a : ℤ) → weight (u ++ (a ∷ [])) ≡ weight u + natAbs a
+unfolding weight
+weight-snoc [] a = omega arith
+weight-snoc (x ∷ u) a = omega (arith, weight-snoc u a)
+
+pub weight-tab : (m : ℕ) (f : ℕ → ℤ) → weight (tab m f) ≡ total m (λ i. natAbs (f i))
+unfolding total tab weight
+weight-tab zero f = refl
+weight-tab (suc m) f = weight-snoc (tab m f) (f m) ∙ ap (λ (k : ℕ). k + natAbs (f m)) (weight-tab m f)
+
+-- the order of two sums
+pub total-swap : (m n : ℕ) (f : ℕ → ℕ → ℕ) → total m (λ i. total n (f i)) ≡ total n (λ j. total m (λ i. f i j))
+unfolding total
+total-swap zero n f = sym (total-const n 0 ∙ omega arith)
+total-swap (suc m) n f = ap (λ (k : ℕ). k + total n (f m)) (total-swap m n f) ∙ total-add n (λ j. total m (λ i. f i j)) (f m)
