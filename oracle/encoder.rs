@@ -9,6 +9,15 @@ mod transform {
     pub(super) fn reciprocals(divisors: &QuantizationDivisors) -> [f64; 64] {
         divisors.reciprocals
     }
+
+    pub(super) fn inverse_zigzag() -> [usize; 64] {
+        NATURAL_TO_ZIGZAG
+    }
+}
+
+/// `NATURAL_TO_ZIGZAG`.
+pub fn natural_to_zigzag() -> [usize; 64] {
+    transform::inverse_zigzag()
 }
 
 /// `QuantizationDivisors`, made from one quantizer table.

@@ -8,9 +8,11 @@
 //! replay must print.
 
 mod blocks;
+mod forward;
 
 use blocks::{blocks, CLAMP_12BIT, CLAMP_8BIT};
-use j2k_codec_math::jpeg::idct;
+use forward::{single_coefficients, whole_blocks};
+use j2k_codec_math::jpeg::{fdct, idct, ZIGZAG};
 use std::path::PathBuf;
 
 const SEED: u64 = 0x000c_61cb_298a;
@@ -526,6 +528,33 @@ fn block_entries_12bit(to: &mut Answers) {
     );
 }
 
+fn forward_entries(to: &mut Answers) {
+    to.save(
+        "fdct_quantize",
+        "block [u8; 64], quant [u8; 64]; answer [i16; 64]",
+        &whole_blocks(2_600),
+        |(block, quant)| fdct::fdct_quantize(&block, &quant),
+    );
+    to.save(
+        "fdct_quantize_coefficient",
+        "block [u8; 64], quantizer u8, natural u8; answer i16",
+        &single_coefficients(2_400),
+        |(block, (quantizer, natural))| {
+            fdct::fdct_quantize_coefficient(&block, quantizer, usize::from(natural))
+        },
+    );
+}
+
+fn zigzag(to: &mut Answers) {
+    to.save("zigzag", "answer [u8; 64]", &[[0u8; 0]], |_| ZIGZAG);
+    to.save(
+        "natural_to_zigzag",
+        "answer [u8; 64], each a usize in the Rust",
+        &[[0u8; 0]],
+        |_| j2k_encoder::natural_to_zigzag().map(|z| u8::try_from(z).expect("a place below 64")),
+    );
+}
+
 fn main() {
     let mut args = std::env::args().skip(1);
     let folder = PathBuf::from(args.next().expect("the folder for the answers"));
@@ -541,5 +570,7 @@ fn main() {
     passes(&mut to);
     block_entries(&mut to);
     block_entries_12bit(&mut to);
+    forward_entries(&mut to);
+    zigzag(&mut to);
     std::fs::write(lines, to.lines).expect("the lines are written");
 }

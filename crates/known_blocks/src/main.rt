@@ -4,6 +4,7 @@ mod blocks;
 mod blocks_12bit;
 mod blocks_i16;
 mod blocks_i32;
+mod forward;
 mod print;
 
 use print::decimal;
@@ -88,4 +89,5 @@ fn main() {
     blocks_i16::facts();
     blocks_i32::facts();
     blocks_12bit::facts();
+    forward::facts();
 }

@@ -2,10 +2,20 @@
 // fault in how the inputs are decoded cannot hide a difference.
 ghost use Prim.Native.Nat.{_+_, _≤_};
 use crate::decode::ROOM;
+use crate::decode::index;
 use crate::decode::u8_at;
 use crate::decode::u16_at;
 use crate::decode::u32_at;
 use crate::decode::u64_at;
+
+// The bits of x.
+fn to_bits_i16(x: i16) -> u16 {
+    if x >= 0 {
+        x as u16
+    } else {
+        u16::MAX - ((-1 - x) as u16)
+    }
+}
 
 pub fn differs_u8(case: &[u8; ROOM], at: usize, answer: u8) -> bool
     requires { ⌜ at + 1 ≤ 512 ⌝ }
@@ -17,6 +27,12 @@ pub fn differs_u16(case: &[u8; ROOM], at: usize, answer: u16) -> bool
     requires { ⌜ at + 2 ≤ 512 ⌝ }
 {
     answer != u16_at(case, at)
+}
+
+pub fn differs_i16(case: &[u8; ROOM], at: usize, answer: i16) -> bool
+    requires { ⌜ at + 2 ≤ 512 ⌝ }
+{
+    to_bits_i16(answer) != u16_at(case, at)
 }
 
 pub fn differs_i32(case: &[u8; ROOM], at: usize, answer: i32) -> bool
@@ -64,6 +80,22 @@ pub fn any_differs_u16(case: &[u8; ROOM], at: usize, answers: &[u16]) -> bool {
     false
 }
 
+pub fn any_differs_i16(case: &[u8; ROOM], at: usize, answers: &[i16]) -> bool {
+    let mut i = 0;
+    let mut at = at;
+    while i < answers.len() {
+        if at > ROOM - 2 {
+            return true;
+        }
+        if differs_i16(case, at, answers[i]) {
+            return true;
+        }
+        i += 1;
+        at += 2;
+    }
+    false
+}
+
 pub fn any_differs_i32(case: &[u8; ROOM], at: usize, answers: &[i32]) -> bool {
     let mut i = 0;
     let mut at = at;
@@ -92,6 +124,23 @@ pub fn any_differs_i64(case: &[u8; ROOM], at: usize, answers: &[i64]) -> bool {
         }
         i += 1;
         at += 8;
+    }
+    false
+}
+
+// The case has a byte for each.
+pub fn any_differs_usize(case: &[u8; ROOM], at: usize, answers: &[usize]) -> bool {
+    let mut i = 0;
+    let mut at = at;
+    while i < answers.len() {
+        if at >= ROOM {
+            return true;
+        }
+        if answers[i] != index(u8_at(case, at)) {
+            return true;
+        }
+        i += 1;
+        at += 1;
     }
     false
 }

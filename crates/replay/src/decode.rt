@@ -18,6 +18,10 @@ fn wider(half: u32) -> u64 {
     half as u64
 }
 
+pub fn index(byte: u8) -> usize {
+    byte as usize
+}
+
 pub fn u8_at(case: &[u8; ROOM], at: usize) -> u8
     requires { ⌜ at + 1 ≤ 512 ⌝ }
 {

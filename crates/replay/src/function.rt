@@ -2,6 +2,7 @@
 // arm here, a line of main.rt with the size of its cases, and its answers in oracle/generate.rs.
 use crate::block_cases;
 use crate::decode::ROOM;
+use crate::forward_cases;
 use crate::islow_cases;
 use crate::scaling_cases;
 use crate::word_cases;
@@ -38,6 +39,10 @@ pub enum Function {
     IslowBlock12bit,
     IslowBlock12bit4x4,
     IslowBlock12bit2x2,
+    FdctQuantize,
+    FdctQuantizeCoefficient,
+    Zigzag,
+    NaturalToZigzag,
 }
 
 // Whether the function's answer for this case differs from the oracle's.
@@ -74,5 +79,9 @@ pub fn differs(function: Function, case: &[u8; ROOM]) -> bool {
         Function::IslowBlock12bit => block_cases::islow_block_12bit(case),
         Function::IslowBlock12bit4x4 => block_cases::islow_block_12bit_4x4(case),
         Function::IslowBlock12bit2x2 => block_cases::islow_block_12bit_2x2(case),
+        Function::FdctQuantize => forward_cases::fdct_quantize(case),
+        Function::FdctQuantizeCoefficient => forward_cases::fdct_quantize_coefficient(case),
+        Function::Zigzag => forward_cases::zigzag(case),
+        Function::NaturalToZigzag => forward_cases::natural_to_zigzag(case),
     }
 }

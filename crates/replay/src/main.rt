@@ -3,6 +3,7 @@
 mod block_cases;
 mod compare;
 mod decode;
+mod forward_cases;
 mod function;
 mod islow_cases;
 mod scaling_cases;
@@ -139,10 +140,22 @@ fn replay_blocks() {
     replay(b"islow_block_12bit_2x2", Function::IslowBlock12bit2x2, 136);
 }
 
+fn replay_forward() {
+    replay(b"fdct_quantize", Function::FdctQuantize, 256);
+    replay(
+        b"fdct_quantize_coefficient",
+        Function::FdctQuantizeCoefficient,
+        68,
+    );
+    replay(b"zigzag", Function::Zigzag, 64);
+    replay(b"natural_to_zigzag", Function::NaturalToZigzag, 64);
+}
+
 fn main() {
     replay_word();
     replay_scaling();
     replay_islow();
     replay_passes();
     replay_blocks();
+    replay_forward();
 }
