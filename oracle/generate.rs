@@ -1,4 +1,5 @@
-//! Writes a fixed list of the oracle's answers, one file for each function.
+//! Writes a fixed list of the oracle's answers, one file for each function, and
+//! those of stored.rs for what the oracle does not have.
 //!
 //! A file is a text header of 256 bytes, then cases of one size: the inputs,
 //! then the answers, little-endian. Boundary cases come first, then random
@@ -9,14 +10,20 @@
 
 mod blocks;
 mod forward;
+mod stored;
 
 use blocks::{blocks, CLAMP_12BIT, CLAMP_8BIT};
 use forward::{single_coefficients, whole_blocks};
 use j2k_codec_math::jpeg::{fdct, idct, ZIGZAG};
 use std::path::PathBuf;
+use stored::{dequantized, pairs_of_blocks, same, screened, stored_blocks};
 
 const SEED: u64 = 0x000c_61cb_298a;
 const HEADER: usize = 256;
+
+/// Whose answers a file holds.
+const ORACLE: &str = "the answers of frames-sg/j2k at 0c61cb298a built with rustc";
+const HARNESS: &str = "the answers of oracle/stored.rs, in 64-bit integers";
 
 /// splitmix64.
 struct Random(u64);
@@ -303,9 +310,20 @@ impl Answers {
         inputs: &[I],
         answer: impl Fn(I) -> A,
     ) {
+        self.save_from(ORACLE, name, layout, inputs, answer);
+    }
+
+    fn save_from<I: Put + Copy, A: Put>(
+        &mut self,
+        source: &str,
+        name: &str,
+        layout: &str,
+        inputs: &[I],
+        answer: impl Fn(I) -> A,
+    ) {
         let count = inputs.len();
         let mut bytes = format!(
-            "{name}: the answers of frames-sg/j2k at 0c61cb298a built with rustc, \
+            "{name}: {source}, \
              made by oracle/generate; seed {SEED:#x}; {count} cases; \
              one case, little-endian: {layout}"
         )
@@ -555,6 +573,32 @@ fn zigzag(to: &mut Answers) {
     );
 }
 
+/// Not the oracle's: see stored.rs.
+fn stored_entries(to: &mut Answers) {
+    let blocks = stored_blocks(1_400);
+    to.save_from(
+        HARNESS,
+        "dequantize",
+        "coefficients [i16; 64], quant [u8; 64]; answer [i32; 64]",
+        &blocks,
+        dequantized,
+    );
+    to.save_from(
+        HARNESS,
+        "screen",
+        "coefficients [i16; 64], quant [u8; 64]; answer u8, 1 for yes",
+        &blocks,
+        screened,
+    );
+    to.save_from(
+        HARNESS,
+        "same",
+        "a [i16; 64], b [i16; 64]; answer u8, 1 for yes",
+        &pairs_of_blocks(1_200),
+        same,
+    );
+}
+
 fn main() {
     let mut args = std::env::args().skip(1);
     let folder = PathBuf::from(args.next().expect("the folder for the answers"));
@@ -572,5 +616,6 @@ fn main() {
     block_entries_12bit(&mut to);
     forward_entries(&mut to);
     zigzag(&mut to);
+    stored_entries(&mut to);
     std::fs::write(lines, to.lines).expect("the lines are written");
 }

@@ -22,7 +22,8 @@ use Rattle.integers.proofs.Floor.{floor-unique}
 use Rattle.integers.proofs.Bound.{mag-le}
 use Rattle.integers.proofs.Agree.{zero-entry, transform-agree}
 use Rattle.lists.proofs.Tab.{length-tab, tab-ext}
-use Rattle.lists.proofs.Below.{below, below-at}
+use Rattle.lists.specs.Below.{below}
+use Rattle.lists.proofs.Below.{below-at}
 use Rattle.gains.specs.Gains.{mirror, mirrored, upper, gains, upper4, gains4, skipped4, upper2, gains2, skipped2}
 use Rattle.gains.proofs.Unread.{AgreeBut}
 use Rattle.scaling.specs.Scaling.{descaled}
@@ -51,10 +52,9 @@ scaled s l h a m =
     ∙ floor-unique (pos 4 *ℤ a) half
     ∙ sym (wrap-id w32 _ (fits _ (omega arith)))
 
--- what a size must be: every entry besides p0 is skipped or tested, and a column of p0 alone gives 4·p0
+-- what a size must be: every entry besides p0 is skipped or tested
 module _ (z : Size) (ks : List ℕ) (b : T (blank ks (z .matrix)))
-    (covered : T (below 8 (λ k. eqb k 0 || (listed ks k || listed (z .ac) k))))
-    (solo : (a : ℤ) → natAbs a ≤ 2 ^ 15 → pass w32 (z .matrix) (11 + z .extra) (a ∷ []) ≡ replicate (z .side) (wrap w32 (pos 4 *ℤ a))) where
+    (covered : T (below 8 (λ k. eqb k 0 || (listed ks k || listed (z .ac) k)))) where
   tested : (k : ℕ) → suc k < 8 → listed ks (suc k) ≡ false → T (listed (z .ac) (suc k))
   tested k h e = rw (eqb·suc-zero k, e) at (below-at 8 (λ k. eqb k 0 || (listed ks k || listed (z .ac) k)) covered (suc k) h)
 
@@ -66,16 +66,21 @@ module _ (z : Size) (ks : List ℕ) (b : T (blank ks (z .matrix)))
       go (yes h) = zero-entry (z .ac) p t (suc k) (tested k h e)
       go (no h) = List·getD-eq-default p (pos 0) (omega arith)
 
-  full : (p : List ℤ) → length p ≡ 8 → natAbs (dc p) ≤ 2 ^ 15 → (t : Bool) → zeroAt (z .ac) p ≡ t →
-      pass w32 (z .matrix) (11 + z .extra) p ≡ cond t (replicate (z .side) (wrap w32 (pos 4 *ℤ dc p))) (pass w32 (z .matrix) (11 + z .extra) p)
+  -- a pass that gives of p0 alone the same value in each place may be cut short to it
+  pub shortcut : (s B : ℕ) (value : ℤ → ℤ) → ((a : ℤ) → natAbs a ≤ B → pass w32 (z .matrix) s (a ∷ []) ≡ replicate (z .side) (value a)) →
+      (p : List ℤ) → length p ≡ 8 → natAbs (dc p) ≤ B → pass w32 (z .matrix) s p ≡ cond (zeroAt (z .ac) p) (replicate (z .side) (value (dc p))) (pass w32 (z .matrix) s p)
   unfolding pass
-  full p l m true e =
-      ap (map (λ (v : ℤ). descaled w32 v (11 + z .extra))) (transform-agree ks p (dc p ∷ []) (alone p l (subst T (sym e) tt)) w32 (z .matrix) b) ∙ solo (dc p) m
-  full p l m false e = refl
+  shortcut s B value solo p l m = go (zeroAt (z .ac) p) refl
+    where
+      go : (t : Bool) → zeroAt (z .ac) p ≡ t → pass w32 (z .matrix) s p ≡ cond t (replicate (z .side) (value (dc p))) (pass w32 (z .matrix) s p)
+      go true e = ap (map (λ (v : ℤ). descaled w32 v s)) (transform-agree ks p (dc p ∷ []) (alone p l (subst T (sym e) tt)) w32 (z .matrix) b) ∙ solo (dc p) m
+      go false e = refl
 
-  pub column-full : (p : List ℤ) → length p ≡ 8 → natAbs (dc p) ≤ 2 ^ 15 → pass w32 (z .matrix) (11 + z .extra) p ≡ columnPass z p
+  -- a column of p0 alone gives 4·p0
+  pub column-full : ((a : ℤ) → natAbs a ≤ 2 ^ 15 → pass w32 (z .matrix) (11 + z .extra) (a ∷ []) ≡ replicate (z .side) (wrap w32 (pos 4 *ℤ a))) →
+      (p : List ℤ) → length p ≡ 8 → natAbs (dc p) ≤ 2 ^ 15 → pass w32 (z .matrix) (11 + z .extra) p ≡ columnPass z p
   unfolding columnPass
-  column-full p l m = full p l m (zeroAt (z .ac) p) refl
+  column-full = shortcut (11 + z .extra) (2 ^ 15) (λ a. wrap w32 (pos 4 *ℤ a))
 
 solo-entry : (s : ℕ) → 1 ≤ s → s ≤ 13 → (a : ℤ) → natAbs a ≤ 2 ^ 15 → descaled w32 (wrap w32 (pos (4 * 2 ^ s) *ℤ a +ℤ pos 0)) s ≡ wrap w32 (pos 4 *ℤ a)
 solo-entry s l h a m = ap (λ (x : ℤ). descaled w32 (wrap w32 x) s) (+ℤ-idr (pos (4 * 2 ^ s) *ℤ a)) ∙ scaled s l h a m

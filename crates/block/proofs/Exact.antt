@@ -7,7 +7,7 @@ use Prim.Native.Nat.{ℕ, zero, suc, _+_, _-_, _*_, _/_, _%_, _^_, _<_, _≤_, z
 use native.Mathlib.Nat.{le-trans, lt-of-le-of-lt, div-le-self}
 use native.Mathlib.Omega.{arith}
 use lib.Dec.{T, ltb, ltb→lt}
-use lib.ListN.{getD}
+use lib.ListN.{length, getD}
 use lib.IntN.{ℤ, pos, negsuc, natAbs, _+ℤ_}
 use mir.Facts.{and-yes}
 use mir.Syntax.{Width, w32, w64}
@@ -30,6 +30,12 @@ use Rattle.block.specs.Block.{columnOf, columns, rowOf, rowSamples, samp
 unfoldable pub exactPass : List (List ℤ) → ℕ → List ℤ → List ℤ
 exactPass [] s p = []
 exactPass (row ∷ rows) s p = floorDiv (dot row p +ℤ pos (2 ^ (s - 1))) (2 ^ s) ∷ exactPass rows s p
+
+pub exact-at : (rows : List (List ℤ)) (s : ℕ) (p : List ℤ) (k : ℕ) → k < length rows → getD (exactPass rows s p) k (pos 0) ≡ floorDiv (dot (getD rows k []) p +ℤ pos (2 ^ (s - 1))) (2 ^ s)
+unfolding exactPass
+exact-at [] s p k h = absurd (omega arith)
+exact-at (row ∷ rows) s p zero h = refl
+exact-at (row ∷ rows) s p (suc k) h = exact-at rows s p k (omega arith)
 
 -- every row's sum of numbers of size B, with its rounding, stays below L
 unfoldable pub light : ℕ → ℕ → ℕ → List (List ℤ) → Bool

@@ -1,5 +1,6 @@
 pub mod Unread
 pub mod Column
+pub mod Row
 pub mod Exact
 pub mod Load
 pub mod Store

@@ -1,17 +1,14 @@
 -- A sample less the centre, at 32 bits.
 -- Assumes nothing.
 use mathlib.Core.Path.{_≡_, sym, ap, subst, _∙_}
-use Prim.Native.Nat.{ℕ, _+_, _-_, _^_, _<_, _≤_}
+use Prim.Native.Nat.{ℕ, _^_, _<_, _≤_}
 use native.Mathlib.Omega.{arith}
 use lib.IntN.{ℤ, pos, natAbs, _-ℤ_}
 use mir.Syntax.{w32}
 use mir.Val.{SFits, toZ, ofZ}
 use mir.ValLaws.{toZ-ofZ, toZ-pos}
-use Rattle.integers.proofs.Difference.{differences}
+use Rattle.integers.proofs.Difference.{distance}
 use Rattle.integers.proofs.Bound.{small-fits}
-
-distance : (n k : ℕ) → natAbs (pos n -ℤ pos k) ≡ (n - k) + (k - n)
-distance n k = simp differences (omega arith)
 
 module _ (n : ℕ) (h : n < 256) where
   centred-size : natAbs (pos n -ℤ pos 128) ≤ 128

@@ -12,7 +12,8 @@ use lib.ListN.{length, getD, set}
 use lib.IntN.{ℤ, pos}
 use Rattle.lists.specs.Tab.{tab}
 use Rattle.lists.proofs.Tab.{length-tab, tab-getD, getD-tab, tab-ext, set-tab}
-use Rattle.lists.proofs.Below.{below, below-at}
+use Rattle.lists.specs.Below.{below}
+use Rattle.lists.proofs.Below.{below-at}
 use Rattle.forward.specs.Forward.{ofParity, quantizedSum, parityWritten}
 
 -- the place that step k writes

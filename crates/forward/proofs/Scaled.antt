@@ -17,7 +17,8 @@ use Rattle.integers.proofs.Ring.{natAbs-+, natAbs-*, natAbs-neg}
 use Rattle.integers.proofs.Bound.{small-fits}
 use Rattle.lists.specs.Tab.{tab}
 use Rattle.lists.proofs.Tab.{getD-tab}
-use Rattle.lists.proofs.Below.{below, below-at}
+use Rattle.lists.specs.Below.{below}
+use Rattle.lists.proofs.Below.{below-at}
 use Rattle.basis.specs.Cosine.{cosines}
 use Rattle.basis.specs.Basis.{signed, negated, reduced, factor, cosineOf, entry, basisTable}
 use Rattle.forward.specs.Sum.{sumTo, total}
@@ -26,7 +27,7 @@ use Rattle.forward.proofs.Sum.{sum-ext, natAbs-sum, total-le, total-sca
 use Rattle.forward.proofs.Folding.{fold-sum}
 
 -- a sum of products whose first factors are at most B
-natAbs-products : (n B : ℕ) (f g : ℕ → ℤ) → ((k : ℕ) → k < n → natAbs (f k) ≤ B) → natAbs (sumTo n (λ k. f k *ℤ g k)) ≤ B * total n (λ k. natAbs (g k))
+pub natAbs-products : (n B : ℕ) (f g : ℕ → ℤ) → ((k : ℕ) → k < n → natAbs (f k) ≤ B) → natAbs (sumTo n (λ k. f k *ℤ g k)) ≤ B * total n (λ k. natAbs (g k))
 natAbs-products n B f g h =
     le-trans (natAbs-sum n (λ k. f k *ℤ g k))
     (le-trans (total-le n _ _ (λ k b. omega (arith, natAbs-* (f k) (g k), mul-le-mul-right (natAbs (g k)) (h k b)))) (le-of-eq (sym (total-scale B n (λ k. natAbs (g k))))))

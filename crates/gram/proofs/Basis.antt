@@ -13,7 +13,8 @@ use Rattle.integers.specs.Linear.{dot, weight}
 use Rattle.integers.proofs.Difference.{dif-eq, by-dif, differences}
 use Rattle.lists.specs.Tab.{tab}
 use Rattle.lists.proofs.Tab.{getD-tab, map-tab}
-use Rattle.lists.proofs.Below.{below, below-at}
+use Rattle.lists.specs.Below.{below}
+use Rattle.lists.proofs.Below.{below-at}
 use Rattle.basis.specs.Cosine.{cosines}
 use Rattle.basis.specs.Basis.{reduced, cosineOf, negated, signed, factor, entry, near, mirrors, basis}
 use Rattle.forward.specs.Sum.{total}

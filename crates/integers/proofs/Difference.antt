@@ -102,3 +102,6 @@ by-dif P f (pos n) = subst P (dif-pos n 0 n (omega arith)) (f n 0)
 by-dif P f (negsuc n) = subst P (dif-neg 0 (suc n) n (omega arith)) (f 0 (suc n))
 
 pub ruleset differences = (dif-add, dif-mul, dif-opposite, dif-abs, pos-dif, negsuc-dif, neg-dif)
+
+pub distance : (n k : ℕ) → natAbs (pos n -ℤ pos k) ≡ (n - k) + (k - n)
+distance n k = simp differences (omega arith)

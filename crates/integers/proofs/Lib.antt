@@ -9,3 +9,4 @@ pub mod Linear
 pub mod Bound
 pub mod Agree
 pub mod ZeroTest
+pub mod Equal

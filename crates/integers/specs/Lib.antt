@@ -1,3 +1,4 @@
 pub mod Wrap
 pub mod Floor
 pub mod Linear
+pub mod Equal

@@ -24,7 +24,7 @@ fn call(entry: Entry, input: &[i16], output: &mut [u8]) -> u32 {
 }
 
 // A block of zeros but for the entry n, and a place more.
-fn only(n: usize, value: i16) -> [i16; ROOM]
+pub fn only(n: usize, value: i16) -> [i16; ROOM]
     requires { ⌜ n < 64 ⌝ }
 {
     let mut input = [0i16; ROOM];

@@ -30,7 +30,7 @@ fn all_i16(room: &[i16; ROOM], from: usize, to: usize, value: i16) -> bool
 }
 
 // So many equal samples or quantizers.
-fn equal(name: &[u8], count: usize, what: &[u8], value: u8) {
+pub fn equal(name: &[u8], count: usize, what: &[u8], value: u8) {
     text(name);
     decimal_usize(count);
     text(what);

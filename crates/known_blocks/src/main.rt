@@ -6,6 +6,7 @@ mod blocks_i16;
 mod blocks_i32;
 mod forward;
 mod print;
+mod stored;
 
 use print::decimal;
 use print::number;
@@ -90,4 +91,5 @@ fn main() {
     blocks_i32::facts();
     blocks_12bit::facts();
     forward::facts();
+    stored::facts();
 }

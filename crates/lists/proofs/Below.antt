@@ -1,16 +1,13 @@
--- A test that is computed at every number below a bound, and the fact at each.
+-- A test at every number below a bound, and the fact at each.
 -- Assumes nothing.
-use mathlib.Core.Path.{_≡_, subst}
-use mathlib.Core.Bool.{Bool, true, _&&_}
+use mathlib.Core.Path.{_≡_, refl, subst, _∙_}
+use mathlib.Core.Bool.{Bool, true, false, _&&_}
 use Prim.Native.Nat.{ℕ, zero, suc, _<_}
 use native.Mathlib.Decide.{decLt}
 use native.Mathlib.Omega.{arith}
 use lib.Dec.{T}
 use mir.Facts.{and-yes}
-
-unfoldable pub below : ℕ → (ℕ → Bool) → Bool
-below zero f = true
-below (suc n) f = f n && below n f
+use Rattle.lists.specs.Below.{below}
 
 pub below-at : (n : ℕ) (f : ℕ → Bool) → T (below n f) → (k : ℕ) → k < n → T (f k)
 unfolding below
@@ -20,3 +17,26 @@ below-at (suc n) f t k h = go (and-yes (f n) (below n f) t) (λ r l. below-at n 
     go : T (f n) × T (below n f) → (T (below n f) → k < n → T (f k)) → Dec (k < n) → T (f k)
     go both rest (yes l) = rest (both .1) l
     go both rest (no l) = let e : n ≡ k = omega arith in subst (λ (j : ℕ). T (f j)) e (both .0)
+
+-- and back
+pub at-below : (n : ℕ) (f : ℕ → Bool) → ((k : ℕ) → k < n → T (f k)) → T (below n f)
+unfolding below
+at-below zero f h = tt
+at-below (suc n) f h = both (f n) (below n f) (h n (omega arith)) (at-below n f (λ k b. h k (omega arith)))
+  where
+    both : (s t : Bool) → T s → T t → T (s && t)
+    both true t p q = q
+
+-- one place where it fails
+pub below-fails : (n : ℕ) (f : ℕ → Bool) (k : ℕ) → k < n → f k ≡ false → below n f ≡ false
+below-fails n f k h e = no (below n f) (λ t. subst T e (below-at n f t k h))
+  where
+    no : (t : Bool) → (T t → T false) → t ≡ false
+    no true p = absurd (p tt)
+    no false p = refl
+
+-- every place holds
+pub below-holds : (n : ℕ) (f : ℕ → Bool) → ((k : ℕ) → k < n → f k ≡ true) → below n f ≡ true
+unfolding below
+below-holds zero f h = refl
+below-holds (suc n) f h = (λ i. h n (omega arith) i && below n f) ∙ below-holds n f (λ k b. h k (omega arith))

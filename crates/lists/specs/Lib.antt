@@ -1,1 +1,2 @@
 pub mod Tab
+pub mod Below

@@ -100,19 +100,21 @@ pub fn row_i64(case: &[u8; ROOM]) -> [i64; 8] {
     ]
 }
 
-// The 64 numbers that a case starts with: one block.
-pub fn block_i16(case: &[u8; ROOM]) -> [i16; 64]
+// 64 numbers from `from` on: one block.
+pub fn block_i16(case: &[u8; ROOM], from: usize) -> [i16; 64]
+    requires { ⌜ from + 128 ≤ 512 ⌝ }
     ensures { λ r. ⌜ 64 ≡ length r ⌝ }
 {
     let mut block = [0i16; 64];
     let mut i = 0;
     while i < 64 {
-        block[i] = i16_at(case, 2 * i);
+        block[i] = i16_at(case, from + 2 * i);
         i += 1;
     }
     block
 }
 
+// The 64 numbers that a case starts with.
 pub fn block_i32(case: &[u8; ROOM]) -> [i32; 64]
     ensures { λ r. ⌜ 64 ≡ length r ⌝ }
 {

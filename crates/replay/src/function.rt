@@ -5,6 +5,7 @@ use crate::decode::ROOM;
 use crate::forward_cases;
 use crate::islow_cases;
 use crate::scaling_cases;
+use crate::stored_cases;
 use crate::word_cases;
 
 pub enum Function {
@@ -43,9 +44,12 @@ pub enum Function {
     FdctQuantizeCoefficient,
     Zigzag,
     NaturalToZigzag,
+    Dequantize,
+    Screen,
+    Same,
 }
 
-// Whether the function's answer for this case differs from the oracle's.
+// Whether the function's answer for this case differs from the file's.
 pub fn differs(function: Function, case: &[u8; ROOM]) -> bool {
     match function {
         Function::WrappingAddI32 => word_cases::wrapping_add_i32(case),
@@ -83,5 +87,8 @@ pub fn differs(function: Function, case: &[u8; ROOM]) -> bool {
         Function::FdctQuantizeCoefficient => forward_cases::fdct_quantize_coefficient(case),
         Function::Zigzag => forward_cases::zigzag(case),
         Function::NaturalToZigzag => forward_cases::natural_to_zigzag(case),
+        Function::Dequantize => stored_cases::dequantize(case),
+        Function::Screen => stored_cases::screen(case),
+        Function::Same => stored_cases::same(case),
     }
 }

@@ -1,5 +1,5 @@
-// Runs the oracle's answers, the files of data/, through the exported functions, and prints for
-// each function how many cases its file holds and how many of them differ.
+// Runs the answers of the oracle and its harness, the files of data/, through the exported functions,
+// and prints for each function how many cases its file holds and how many of them differ.
 mod block_cases;
 mod compare;
 mod decode;
@@ -7,6 +7,7 @@ mod forward_cases;
 mod function;
 mod islow_cases;
 mod scaling_cases;
+mod stored_cases;
 mod word_cases;
 
 ghost use Prim.Native.Nat.{_≤_};
@@ -151,6 +152,12 @@ fn replay_forward() {
     replay(b"natural_to_zigzag", Function::NaturalToZigzag, 64);
 }
 
+fn replay_stored() {
+    replay(b"dequantize", Function::Dequantize, 448);
+    replay(b"screen", Function::Screen, 193);
+    replay(b"same", Function::Same, 257);
+}
+
 fn main() {
     replay_word();
     replay_scaling();
@@ -158,4 +165,5 @@ fn main() {
     replay_passes();
     replay_blocks();
     replay_forward();
+    replay_stored();
 }

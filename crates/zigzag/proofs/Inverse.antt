@@ -7,7 +7,8 @@ use Prim.Native.Nat.{ℕ, _<_}
 use lib.Dec.{T, eqb, eqb→eq}
 use lib.ListN.{getD}
 use Rattle.lists.specs.Tab.{tab}
-use Rattle.lists.proofs.Below.{below, below-at}
+use Rattle.lists.specs.Below.{below}
+use Rattle.lists.proofs.Below.{below-at}
 use Rattle.zigzag.specs.Zigzag.{diagonal, walked, zigzagOrder, placeIn, places}
 
 -- entry n of `back` leads to a place of `there` that holds n

@@ -8,10 +8,10 @@ use Rattle.replay.proofs.decode.block_i16.Statement.{statement}
 use Rattle.replay.proofs.decode.block_i16.Tie as tie
 
 abbrev Inv-loop : tie.InvT-loop
-Inv-loop case block₀ i₀ block i = (i ≤ 64) × (64 ≡ length block)
+Inv-loop case from block₀ i₀ block i = (i ≤ 64) × (64 ≡ length block)
 
 abbrev μ-loop : tie.MeasureT-loop
-μ-loop case block₀ i₀ block i = 64 - i
+μ-loop case from block₀ i₀ block i = 64 - i
 
 pub block-i16-spec : {M : Type 1} → statement M
 block-i16-spec =
@@ -20,6 +20,7 @@ block-i16-spec =
     Inv-loop
     μ-loop
     (λ c. search needs)
+    (λ c. omega arith)
     (λ c. omega arith)
     (λ c κs. omega arith)
     (λ c. omega arith)

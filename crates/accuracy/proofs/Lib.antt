@@ -1,0 +1,5 @@
+pub mod Passes
+pub mod Gains
+pub mod Distance
+pub mod Inverse
+pub mod Sample

@@ -1,0 +1,60 @@
+-- The second half of demand 3: a block's products are small, and its samples come back near.
+-- Assumes nothing.
+use mathlib.Core.Path.{_≡_, refl, sym, ap, subst, _∙_}
+use mathlib.Core.List.{List}
+use Prim.Native.Nat.{ℕ, _+_, _-_, _*_, _^_, _≤_, _<_, zero-le}
+use native.Mathlib.Omega.{arith}
+use lib.ListN.{getD}
+use lib.IntN.{ℤ, pos, natAbs, _-ℤ_, _*ℤ_, *ℤ-comm}
+use mir.Syntax.{w16}
+use mir.Val.{SFits}
+use Rattle.integers.proofs.Difference.{by-dif, differences, distance}
+use Rattle.integers.proofs.Bound.{small-fits}
+use Rattle.lists.specs.Tab.{tab}
+use Rattle.lists.proofs.Tab.{getD-tab, getD-every}
+use Rattle.quantize.specs.Quantize.{divisorOf, coefficient}
+use Rattle.forward.specs.Forward.{centred, centredBlock, scaledSum}
+use Rattle.forward.proofs.Folding.{sum-centred}
+use Rattle.forward.proofs.Scaled.{scaled-size}
+use Rattle.block.specs.Bound.{AtMost}
+use Rattle.dequantize.specs.Dequantize.{product, dequantized}
+use Rattle.fdct.specs.Fdct.{coefficients}
+use Rattle.gram.proofs.Rounding.{coefficient-nearest}
+use Rattle.gram.proofs.Reconstruction.{centred-within, quantized-reconstruction}
+use Rattle.accuracy.specs.Sample.{exactNumber}
+use Rattle.accuracy.proofs.Sample.{comes-back}
+use Rattle.bounds.specs.Demand3.{products, decoded, weightedBasis, Near, Narrow}
+use Rattle.bounds.proofs.Alike.{coefficient-at}
+
+-- D within half a divisor of S / 2^32: at most 1024 + 127
+nearest-size : (D S : ℤ) (d : ℕ) → natAbs (pos (2 ^ 32) *ℤ D -ℤ S) ≤ d * 2 ^ 31 → natAbs S ≤ 2 ^ 42 → d ≤ 255 → natAbs D ≤ 1151
+nearest-size = by-dif _ λ a b. by-dif _ λ c d. λ k g h l. let g′ = simp differences at g in let h′ = simp differences at h in simp differences (omega arith)
+
+module _ (quant a : List ℕ) (most : (i : ℕ) → getD quant i 0 ≤ 255) (bright : (i : ℕ) → getD a i 0 ≤ 255) where
+  -- the divisor times the coefficient, as `quantized-reconstruction` has it
+  product-is : (n : ℕ) → n < 64 → getD (products a quant) n (pos 0) ≡ pos (divisorOf (getD quant n 0)) *ℤ coefficient (scaledSum 128 a n) (getD quant n 0)
+  unfolding products dequantized product
+  product-is n h =
+      getD-tab 64 _ (pos 0) n h ∙ ap (λ (z : ℤ). z *ℤ pos (divisorOf (getD quant n 0))) (coefficient-at a quant n h) ∙ *ℤ-comm (coefficient (scaledSum 128 a n) (getD quant n 0)) (pos (divisorOf (getD quant n 0)))
+
+  sum-size : (n : ℕ) → n < 64 → natAbs (scaledSum 128 a n) ≤ 2 ^ 42
+  unfolding centredBlock
+  sum-size n h =
+      let small = getD-every (λ (z : ℤ). natAbs z ≤ 128) 64 (λ i. pos (getD a i 0) -ℤ pos 128) (pos 0) zero-le (λ i b. omega (arith, distance (getD a i 0) 128, bright i)) in
+      subst (λ (z : ℤ). natAbs z ≤ 2 ^ 42) (sum-centred 128 a n) (omega (arith, scaled-size (centredBlock 128 a) 128 small n h))
+
+  pub products-small : AtMost 1151 (products a quant)
+  unfolding products dequantized divisorOf
+  products-small =
+      getD-every (λ (z : ℤ). natAbs z ≤ 1151) 64 _ (pos 0) zero-le (λ n h.
+      subst (λ (z : ℤ). natAbs z ≤ 1151) (sym (product-is n h) ∙ getD-tab 64 _ (pos 0) n h)
+      (nearest-size (pos (divisorOf (getD quant n 0)) *ℤ coefficient (scaledSum 128 a n) (getD quant n 0)) (scaledSum 128 a n) (divisorOf (getD quant n 0)) (coefficient-nearest (scaledSum 128 a n) (getD quant n 0)) (sum-size n h) (let l = most n in omega arith)))
+
+  pub narrow : Narrow (products a quant)
+  narrow n = small-fits w16 _ (omega (arith, products-small n))
+
+  pub near : Near quant a (decoded a quant)
+  unfolding decoded weightedBasis exactNumber centred
+  near x y hx hy =
+      comes-back (products a quant) products-small x y hx hy (getD a (8 * y + x) 0) _ (bright (8 * y + x))
+      (quantized-reconstruction 128 a 128 (λ x y hx hy. centred-within 128 a x y (let s = bright (8 * y + x) in omega arith)) x y hx hy quant (λ n. getD (products a quant) n (pos 0)) product-is)

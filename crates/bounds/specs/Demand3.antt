@@ -1,0 +1,52 @@
+-- Document 01, "Demand 3 in numbers": what equal coefficients can hide, and how far a block comes back from its coefficients.
+use mathlib.Core.List.{List}
+use mathlib.Core.Path.{_≡_}
+use Prim.Native.Nat.{ℕ, _+_, _*_, _^_, _≤_, _<_}
+use lib.ListN.{length, getD}
+use lib.IntN.{ℤ, pos, natAbs, _-ℤ_}
+use mir.Syntax.{w16}
+use mir.Val.{SFits}
+use Rattle.basis.specs.Basis.{basis}
+use Rattle.forward.specs.Sum.{total}
+use Rattle.quantize.specs.Quantize.{divisorOf}
+use Rattle.fdct.specs.Fdct.{coefficients}
+use Rattle.dequantize.specs.Dequantize.{dequantized}
+use Rattle.passes.specs.Passes.{eight}
+use Rattle.block.specs.Block.{block}
+use Rattle.gram.specs.Difference.{squaredDifferences, squaredDivisors}
+
+-- "An 8-bit block is any 64 samples 0..255, a table any 64 quantizers 0..255"
+pub record Bytes (l : List ℕ) : Type 0 where
+  pub long : length l ≡ 64
+  pub most : (i : ℕ) → getD l i 0 ≤ 255
+
+-- a block's coefficients, dequantized
+unfoldable pub products : List ℕ → List ℕ → List ℤ
+products a quant = dequantized (coefficients a quant) quant
+
+-- and "handed to the 8-bit 8×8 inverse"
+unfoldable pub decoded : List ℕ → List ℕ → List ℕ
+decoded a quant = block eight (products a quant)
+
+-- "the sum, over the 64 frequencies n, of d(n) times the size of the basis integer for n at (x, y), mirrored as in leaf 3"
+unfoldable pub weightedBasis : List ℕ → ℕ → ℕ → ℕ
+weightedBasis quant x y = total 64 (λ n. divisorOf (getD quant n 0) * natAbs (basis n x y))
+
+-- "the sum of (a - b)² over the 64 places is at most the sum of d(n)² over the 64 frequencies"
+abbrev pub Alike : List ℕ → List ℕ → List ℕ → Type 0
+Alike quant a b = squaredDifferences a b ≤ squaredDivisors quant
+
+-- "At each place (x, y), 2^33 times the size of a - c is at most 2^34 plus" the weighted basis
+abbrev pub Near : List ℕ → List ℕ → List ℕ → Type 0
+Near quant a c =
+    (x y : ℕ) → x < 8 → y < 8 → 2 ^ 33 * natAbs (pos (getD a (8 * y + x) 0) -ℤ pos (getD c (8 * y + x) 0)) ≤ 2 ^ 34 + weightedBasis quant x y
+
+-- "The products fit 16 bits"
+abbrev pub Narrow : List ℤ → Type 0
+Narrow ps = (n : ℕ) → SFits w16 (getD ps n (pos 0))
+
+-- "Both halves together are one claim"
+abbrev pub Demand3 : List ℕ → Type 0
+Demand3 quant =
+    ((a b : List ℕ) → Bytes a → Bytes b → coefficients a quant ≡ coefficients b quant → Alike quant a b)
+    × ((a : List ℕ) → Bytes a → Narrow (products a quant) × Near quant a (decoded a quant))

@@ -1,0 +1,12 @@
+// How much room the two bounds of demand 3 leave (document 01, "Demand 3 in numbers"): blocks and tables, found by search, that
+// come near to each. Prints both sides of each bound.
+mod alike;
+mod exact;
+mod found;
+mod near;
+mod print;
+
+fn main() {
+    alike::report();
+    near::report();
+}

@@ -1,0 +1,133 @@
+// Blocks of stored coefficients: dequantizing, the screen and sameness (document 01, "Added by design").
+//
+// A product of a 16-bit coefficient and a divisor of 1..255 is at most 32768·255, well within 32 bits.
+ghost use mathlib.Core.Path.{_≡_};
+ghost use mathlib.Core.Bool.{Bool};
+ghost use Prim.Native.Nat.{_≤_, _<_};
+ghost use lib.ListN.{length};
+ghost use lib.IntN.{pos, natAbs, _*ℤ_};
+ghost use Rattle.integers.specs.Equal.{eqZ};
+ghost use Rattle.quantize.specs.Quantize.{divisorOf};
+ghost use Rattle.dequantize.specs.Dequantize.{dequantized, status, after, screened, screenAnswer, sameBlocks, sameAnswer};
+use quantize::divisor;
+
+// What `screen` and `same` answer: status 0 and the word, or a refusal's number and no.
+pub struct Answer {
+    pub status: u32,
+    pub yes: bool,
+}
+
+// A coefficient times its divisor.
+fn product(coefficient: i16, quantizer: u8) -> i32
+    ensures { λ r. ⌜ r ≡ coefficient *ℤ pos (divisorOf quantizer) ⌝ }
+    ensures { λ r. ⌜ natAbs r ≤ 8355840 ⌝ }
+{
+    (coefficient as i32) * (divisor(quantizer as u16) as i32)
+}
+
+fn write_products(coefficients: &[i16], quant: &[u8], out: &mut [i32])
+    requires { ⌜ length (now coefficients) ≡ 64 ⌝ }
+    requires { ⌜ length (now quant) ≡ 64 ⌝ }
+    requires { ⌜ length (now out) ≡ 64 ⌝ }
+    ensures { λ _. ⌜ now (out .exit) ≡ dequantized (now (coefficients .entry)) (now (quant .entry)) ⌝ }
+{
+    let mut n = 0;
+    while n < 64 {
+        out[n] = product(coefficients[n], quant[n]);
+        n += 1;
+    }
+}
+
+pub fn dequantize(coefficients: &[i16], quant: &[u8], out: &mut [i32]) -> u32
+    ensures { λ r. ⌜ r ≡ status (now (coefficients .entry)) (now (quant .entry)) (now (out .entry)) ⌝ }
+    ensures { λ _. ⌜ now (out .exit) ≡ after (now (coefficients .entry)) (now (quant .entry)) (now (out .entry)) ⌝ }
+{
+    if coefficients.len() != 64 {
+        return 1;
+    }
+    if quant.len() != 64 {
+        return 2;
+    }
+    if out.len() != 64 {
+        return 3;
+    }
+    write_products(coefficients, quant, out);
+    0
+}
+
+fn products_in_range(coefficients: &[i16], quant: &[u8]) -> bool
+    requires { ⌜ length (now coefficients) ≡ 64 ⌝ }
+    requires { ⌜ length (now quant) ≡ 64 ⌝ }
+    ensures { λ r. ⌜ r ≡ screened (now (coefficients .entry)) (now (quant .entry)) ⌝ }
+{
+    let mut n = 0;
+    while n < 64 {
+        let p = product(coefficients[n], quant[n]);
+        if p < -1024 {
+            return false;
+        }
+        if p > 1023 {
+            return false;
+        }
+        n += 1;
+    }
+    true
+}
+
+// Whether every product lies in the range of an honest coder's DC.
+pub fn screen(coefficients: &[i16], quant: &[u8]) -> Answer
+    ensures { λ r. ⌜ r ≡ screenAnswer (now (coefficients .entry)) (now (quant .entry)) ⌝ }
+{
+    if coefficients.len() != 64 {
+        return Answer {
+            status: 1,
+            yes: false,
+        };
+    }
+    if quant.len() != 64 {
+        return Answer {
+            status: 2,
+            yes: false,
+        };
+    }
+    Answer {
+        status: 0,
+        yes: products_in_range(coefficients, quant),
+    }
+}
+
+fn all_equal(a: &[i16], b: &[i16]) -> bool
+    requires { ⌜ length (now a) ≡ 64 ⌝ }
+    requires { ⌜ length (now b) ≡ 64 ⌝ }
+    ensures { λ r. ⌜ r ≡ sameBlocks (now (a .entry)) (now (b .entry)) ⌝ }
+{
+    let mut n = 0;
+    while n < 64 {
+        if a[n] != b[n] {
+            return false;
+        }
+        n += 1;
+    }
+    true
+}
+
+pub fn same(a: &[i16], b: &[i16]) -> Answer
+    ensures { λ r. ⌜ r ≡ sameAnswer (now (a .entry)) (now (b .entry)) ⌝ }
+{
+    if a.len() != 64 {
+        return Answer {
+            status: 1,
+            yes: false,
+        };
+    }
+    if b.len() != 64 {
+        return Answer {
+            status: 1,
+            yes: false,
+        };
+    }
+    Answer {
+        status: 0,
+        yes: all_equal(a, b),
+    }
+}

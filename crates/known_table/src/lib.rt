@@ -1,0 +1,1 @@
+// Document 01's starred known blocks: one table in specs/, one theorem in proofs/. No code.
