@@ -199,7 +199,11 @@ fn at_the_clamp<T: Number>(clamp: &Clamp, random: &mut Random) -> Vec<Block<T>> 
 
 /// `count` blocks: the boundary ones, then random ones.
 pub fn blocks<T: Number>(clamp: &Clamp, count: usize) -> Vec<Block<T>> {
-    let mut random = Random(SEED);
+    blocks_from(SEED, clamp, count)
+}
+
+pub fn blocks_from<T: Number>(seed: u64, clamp: &Clamp, count: usize) -> Vec<Block<T>> {
+    let mut random = Random(seed);
     let mut all: Vec<Block<T>> = dcs::<T>(clamp).into_iter().map(dc_only).collect();
     all.extend(ends::<T>().into_iter().map(|x| block(|_| x)));
     all.extend(sparse::<T>(&mut random));

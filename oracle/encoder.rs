@@ -10,6 +10,14 @@ mod transform {
         divisors.reciprocals
     }
 
+    pub(super) fn from_reciprocals(reciprocals: [f64; 64]) -> QuantizationDivisors {
+        QuantizationDivisors { reciprocals }
+    }
+
+    pub(super) fn values(block: &[u8; 64]) -> [f64; 64] {
+        fdct_values_scalar(block)
+    }
+
     pub(super) fn inverse_zigzag() -> [usize; 64] {
         NATURAL_TO_ZIGZAG
     }
@@ -28,9 +36,21 @@ impl Divisors {
         Self(transform::QuantizationDivisors::new(quant))
     }
 
+    /// Divisors of any content.
+    pub fn of(reciprocals: [f64; 64]) -> Self {
+        Self(transform::from_reciprocals(reciprocals))
+    }
+
     pub fn reciprocals(&self) -> [f64; 64] {
         transform::reciprocals(&self.0)
     }
+}
+
+/// Each value of the f64 transform times its reciprocal: what is rounded.
+pub fn scaled_values(block: &[u8; 64], divisors: &Divisors) -> [f64; 64] {
+    let values = transform::values(block);
+    let reciprocals = divisors.reciprocals();
+    core::array::from_fn(|n| values[n] * reciprocals[n])
 }
 
 /// `QuantizedBlock`, with fields that the harness can read.

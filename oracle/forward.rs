@@ -12,7 +12,7 @@ pub type Single = (Samples, (u8, u8));
 
 /// The frequencies whose basis is 2^29 everywhere but for the sign, so that
 /// quotients of just one half occur: u and v of 0 and 4.
-const RATIONAL: [usize; 4] = [0, 4, 32, 36];
+pub const RATIONAL: [usize; 4] = [0, 4, 32, 36];
 
 /// Quantizers that are tried alone, in a table of equal ones.
 const QUANTIZERS: [u8; 16] = [0, 1, 2, 3, 4, 5, 7, 8, 15, 16, 17, 64, 127, 128, 254, 255];
@@ -46,7 +46,7 @@ fn mixed_table(random: &mut Random) -> Table {
 }
 
 /// A table of one of the kinds above, or of small quantizers.
-fn any_table(random: &mut Random) -> Table {
+pub fn any_table(random: &mut Random) -> Table {
     match random.below(4) {
         0 => random_table(random),
         1 => mixed_table(random),
@@ -163,7 +163,7 @@ fn small_noise(random: &mut Random) -> Samples {
 }
 
 /// A block of random samples of one of several kinds.
-fn any_block(random: &mut Random) -> Samples {
+pub fn any_block(random: &mut Random) -> Samples {
     match random.below(5) {
         0 => small_noise(random),
         // Ends alone.
@@ -200,7 +200,11 @@ fn equal_samples(random: &mut Random) -> Vec<Whole> {
 /// At least `count` blocks with their tables: the boundary ones, then random
 /// ones.
 pub fn whole_blocks(count: usize) -> Vec<Whole> {
-    let mut random = Random(SEED);
+    whole_blocks_from(SEED, count)
+}
+
+pub fn whole_blocks_from(seed: u64, count: usize) -> Vec<Whole> {
+    let mut random = Random(seed);
     let mut all = equal_samples(&mut random);
     for (block, natural, quantizer) in ties(&mut random) {
         let mut table = any_table(&mut random);
@@ -231,7 +235,11 @@ pub fn whole_blocks(count: usize) -> Vec<Whole> {
 /// At least `count` blocks, each with one quantizer and one index; every index
 /// comes with the extremes of its coefficient.
 pub fn single_coefficients(count: usize) -> Vec<Single> {
-    let mut random = Random(SEED);
+    single_coefficients_from(SEED, count)
+}
+
+pub fn single_coefficients_from(seed: u64, count: usize) -> Vec<Single> {
+    let mut random = Random(seed);
     let mut all = Vec::new();
     for natural in 0..64 {
         for quantizer in [0, 1, 2, 3, 255] {

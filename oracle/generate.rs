@@ -10,48 +10,23 @@
 
 mod blocks;
 mod forward;
+mod guarded;
+mod numbers;
 mod stored;
 
 use blocks::{blocks, CLAMP_12BIT, CLAMP_8BIT};
 use forward::{single_coefficients, whole_blocks};
 use j2k_codec_math::jpeg::{fdct, idct, ZIGZAG};
+use j2k_encoder::Divisors;
+use numbers::{ends, least, most, powers, Number, Random, SEED};
 use std::path::PathBuf;
 use stored::{dequantized, pairs_of_blocks, same, screened, stored_blocks};
 
-const SEED: u64 = 0x000c_61cb_298a;
 const HEADER: usize = 256;
 
 /// Whose answers a file holds.
 const ORACLE: &str = "the answers of frames-sg/j2k at 0c61cb298a built with rustc";
 const HARNESS: &str = "the answers of oracle/stored.rs, in 64-bit integers";
-
-/// splitmix64.
-struct Random(u64);
-
-impl Random {
-    fn next(&mut self) -> u64 {
-        self.0 = self.0.wrapping_add(0x9e37_79b9_7f4a_7c15);
-        let mut z = self.0;
-        z = (z ^ (z >> 30)).wrapping_mul(0xbf58_476d_1ce4_e5b9);
-        z = (z ^ (z >> 27)).wrapping_mul(0x94d0_49bb_1331_11eb);
-        z ^ (z >> 31)
-    }
-
-    fn below(&mut self, n: u64) -> u64 {
-        self.next() % n
-    }
-
-    /// A signed number of `bits` bits.
-    fn signed(&mut self, bits: u32) -> i64 {
-        (self.next() as i64) >> (64 - bits)
-    }
-
-    /// A signed number of 1 to `bits` bits, each width as likely as the next.
-    fn any_width(&mut self, bits: u32) -> i64 {
-        let width = 1 + self.below(u64::from(bits)) as u32;
-        self.signed(width)
-    }
-}
 
 /// What a case is made of.
 trait Put {
@@ -67,7 +42,7 @@ macro_rules! put_number {
         }
     )*};
 }
-put_number!(u8 u16 i16 i32 i64);
+put_number!(u8 u16 i16 i32 i64 u64 f64);
 
 impl<T: Put, const N: usize> Put for [T; N] {
     fn put(&self, to: &mut Vec<u8>) {
@@ -80,80 +55,6 @@ impl<A: Put, B: Put> Put for (A, B) {
         self.0.put(to);
         self.1.put(to);
     }
-}
-
-/// The numbers that the transforms are tried on: `i16`, `i32` and `i64`.
-trait Number: Copy + PartialEq {
-    const BITS: u32;
-    fn of(x: i64) -> Self;
-}
-
-impl Number for i16 {
-    const BITS: u32 = 16;
-    fn of(x: i64) -> Self {
-        i16::try_from(x).expect("a number of 16 bits")
-    }
-}
-
-impl Number for i32 {
-    const BITS: u32 = 32;
-    fn of(x: i64) -> Self {
-        i32::try_from(x).expect("a number of 32 bits")
-    }
-}
-
-impl Number for i64 {
-    const BITS: u32 = 64;
-    fn of(x: i64) -> Self {
-        x
-    }
-}
-
-fn least<T: Number>() -> i64 {
-    i64::MIN >> (64 - T::BITS)
-}
-
-fn most<T: Number>() -> i64 {
-    i64::MAX >> (64 - T::BITS)
-}
-
-/// Zero, every power of two, its neighbours and their negatives.
-fn powers<T: Number>() -> Vec<i64> {
-    let mut all = vec![0];
-    for k in 0..T::BITS - 1 {
-        let p = 1i64 << k;
-        all.extend([p - 1, p, p + 1, -p - 1, -p, 1 - p]);
-    }
-    all.extend([most::<T>() - 1, most::<T>(), least::<T>(), least::<T>() + 1]);
-    all.sort_unstable();
-    all.dedup();
-    all
-}
-
-/// The ends of the type, small numbers and the ends of 16 bits.
-fn ends<T: Number>() -> Vec<i64> {
-    let mut all = vec![
-        least::<T>(),
-        least::<T>() + 1,
-        least::<T>() / 2,
-        -65_536,
-        -32_768,
-        -2,
-        -1,
-        0,
-        1,
-        2,
-        32_767,
-        65_536,
-        most::<T>() / 2,
-        most::<T>() / 2 + 1,
-        most::<T>() - 1,
-        most::<T>(),
-    ];
-    all.retain(|x| (least::<T>()..=most::<T>()).contains(x));
-    all.sort_unstable();
-    all.dedup();
-    all
 }
 
 fn randoms<T: Number>(count: usize) -> Vec<T> {
@@ -573,6 +474,47 @@ fn zigzag(to: &mut Answers) {
     );
 }
 
+fn record(made: j2k_encoder::Quantized) -> (i16, ([i16; 64], u64)) {
+    (made.dc, (made.ac_coefficients, made.nonzero_ac))
+}
+
+fn guarded_entries(to: &mut Answers) {
+    let mut random = Random(SEED);
+    let mut tables: Vec<forward::Table> = (1..=255).map(|q| [q; 64]).collect();
+    tables.extend((0..145).map(|_| guarded::table(&mut random)));
+    to.save(
+        "quantization_divisors",
+        "quant [u8; 64]; reciprocals [f64; 64]",
+        &tables,
+        |quant| Divisors::new(&quant).reciprocals(),
+    );
+    let answer = "dc i16, ac [i16; 64], nonzero u64";
+    to.save(
+        "transform_fdct_quantize",
+        &format!("block, quant, table of the divisors [u8; 64]; {answer}"),
+        &guarded::made(4_200),
+        |(block, (quant, other))| {
+            record(j2k_encoder::fdct_quantize(
+                &block,
+                &quant,
+                &Divisors::new(&other),
+            ))
+        },
+    );
+    to.save(
+        "transform_fdct_quantize_handed",
+        &format!("block, quant [u8; 64], divisors [f64; 64]; {answer}"),
+        &guarded::handed(1_200),
+        |(block, (quant, reciprocals))| {
+            record(j2k_encoder::fdct_quantize(
+                &block,
+                &quant,
+                &Divisors::of(reciprocals),
+            ))
+        },
+    );
+}
+
 /// Not the oracle's: see stored.rs.
 fn stored_entries(to: &mut Answers) {
     let blocks = stored_blocks(1_400);
@@ -617,5 +559,6 @@ fn main() {
     forward_entries(&mut to);
     zigzag(&mut to);
     stored_entries(&mut to);
+    guarded_entries(&mut to);
     std::fs::write(lines, to.lines).expect("the lines are written");
 }

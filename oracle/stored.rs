@@ -118,7 +118,11 @@ fn extremes(random: &mut Random) -> Vec<Stored> {
 /// At least `count` blocks with their tables: the boundary ones, then random
 /// ones.
 pub fn stored_blocks(count: usize) -> Vec<Stored> {
-    let mut random = Random(SEED);
+    stored_blocks_from(SEED, count)
+}
+
+pub fn stored_blocks_from(seed: u64, count: usize) -> Vec<Stored> {
+    let mut random = Random(seed);
     let mut all = edges(&mut random);
     all.extend(extremes(&mut random));
     for dc in -8..8 {
@@ -167,7 +171,11 @@ fn moved(mut block: Coefficients, n: usize, by: i16) -> Coefficients {
 /// opposite numbers, by two places exchanged, or by a sign; that do not differ;
 /// and any two.
 pub fn pairs_of_blocks(count: usize) -> Vec<Pair> {
-    let mut random = Random(SEED);
+    pairs_of_blocks_from(SEED, count)
+}
+
+pub fn pairs_of_blocks_from(seed: u64, count: usize) -> Vec<Pair> {
+    let mut random = Random(seed);
     let mut all: Vec<Pair> = Vec::new();
     for n in 0..64 {
         for by in [1, -1, 256, i16::MIN, 1 + random.below(65_535) as u16 as i16] {

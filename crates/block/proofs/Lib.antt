@@ -6,3 +6,4 @@ pub mod Load
 pub mod Store
 pub mod Rows
 pub mod Entry
+pub mod Reduced

@@ -20,7 +20,7 @@ use Rattle.integers.proofs.Congruence.{Congruent, equal, itself, invers
 use Rattle.integers.proofs.Wrap.{Same, ofZ-congruent, wrap-bits, wrap-fits}
 
 -- -1 - x: every bit of x turned over
-abbrev flip : ℤ → ℤ
+abbrev pub flip : ℤ → ℤ
 flip (pos n) = negsuc n
 flip (negsuc n) = pos n
 
@@ -61,7 +61,7 @@ module _ (w : Width) {x : ℤ} (f : SFits w x) where
   pub flips : SFits w (negsuc 0 -ℤ toZ w (ofZ w x))
   flips = rw (toZ-ofZ w x f, minus-one-minus x) (flip-fits x f)
 
-  flipped : toZ w (ofZ w (negsuc 0 -ℤ toZ w (ofZ w x))) ≡ flip x
+  pub flipped : toZ w (ofZ w (negsuc 0 -ℤ toZ w (ofZ w x))) ≡ flip x
   flipped = toZ-ofZ w _ flips ∙ ap (λ (z : ℤ). negsuc 0 -ℤ z) (toZ-ofZ w x f) ∙ minus-one-minus x
 
   pub to-bits-nonneg : leZ (pos 0) (toZ w (ofZ w x)) ≡ true → Unsigned w (toZ w (ofZ w x)) × (natAbs (toZ w (ofZ w x)) ≡ ofZ w x)

@@ -28,7 +28,7 @@ or-eqb (suc a) b =
     rw (ne-eqb (bitOr (suc a) b) 0 (λ e. omega arith), ne-eqb (suc a) 0 (λ e. omega arith))
 
 module _ (w : Width) where
-  zero-bits : (z : ℤ) → mag z < 2 ^ hbits w → eqb (ofZ w z) 0 ≡ eqb (natAbs z) 0
+  pub zero-bits : (z : ℤ) → mag z < 2 ^ hbits w → eqb (ofZ w z) 0 ≡ eqb (natAbs z) 0
   zero-bits (pos n) h = refl
   zero-bits (negsuc n) h =
       let p : 2 ^ bits w ≡ 2 ^ hbits w * 2 = pow-bits w in

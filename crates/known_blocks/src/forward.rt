@@ -1,6 +1,7 @@
 // The canonical forward entries, on equal samples.
 ghost use Prim.Native.Nat.{_≤_};
 use crate::blocks::ROOM;
+use crate::blocks::small;
 use crate::blocks::wide;
 use crate::print::decimal;
 use crate::print::decimal_usize;
@@ -9,10 +10,6 @@ use crate::print::text;
 
 // Every place of an output holds this before the call. No coefficient below is it.
 const FILL: i16 = 165;
-
-fn small(value: u8) -> u32 {
-    value as u32
-}
 
 // Whether the places from `from` to before `to` all hold the value.
 fn all_i16(room: &[i16; ROOM], from: usize, to: usize, value: i16) -> bool

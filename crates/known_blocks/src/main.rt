@@ -1,9 +1,6 @@
 // Prints what the exported functions give at known places, one fact a line: the ends of what a
 // function takes, refusals, and the differences from the Rust.
 mod blocks;
-mod blocks_12bit;
-mod blocks_i16;
-mod blocks_i32;
 mod forward;
 mod print;
 mod stored;
@@ -87,9 +84,7 @@ fn main() {
     shifts_refused();
     samples();
     islow_gain_bounds();
-    blocks_i16::facts();
-    blocks_i32::facts();
-    blocks_12bit::facts();
+    blocks::facts();
     forward::facts();
     stored::facts();
 }

@@ -1,8 +1,8 @@
 // Dequantizing, the screen and sameness, on blocks of zeros but for one entry.
 ghost use Prim.Native.Nat.{_<_, _≤_};
 use crate::blocks::ROOM;
+use crate::blocks::only;
 use crate::blocks::wide;
-use crate::blocks_i16::only;
 use crate::forward::equal;
 use crate::print::decimal;
 use crate::print::decimal_usize;

@@ -17,34 +17,48 @@ fn to_bits_i16(x: i16) -> u16 {
     }
 }
 
+// The bits of x, and 0 for a NaN, which no oracle's answer here is.
+fn bits_of(x: f64) -> u64 {
+    if x != x {
+        return 0;
+    }
+    f64::to_bits(x)
+}
+
 pub fn differs_u8(case: &[u8; ROOM], at: usize, answer: u8) -> bool
-    requires { ⌜ at + 1 ≤ 512 ⌝ }
+    requires { ⌜ at + 1 ≤ 1024 ⌝ }
 {
     answer != u8_at(case, at)
 }
 
 pub fn differs_u16(case: &[u8; ROOM], at: usize, answer: u16) -> bool
-    requires { ⌜ at + 2 ≤ 512 ⌝ }
+    requires { ⌜ at + 2 ≤ 1024 ⌝ }
 {
     answer != u16_at(case, at)
 }
 
 pub fn differs_i16(case: &[u8; ROOM], at: usize, answer: i16) -> bool
-    requires { ⌜ at + 2 ≤ 512 ⌝ }
+    requires { ⌜ at + 2 ≤ 1024 ⌝ }
 {
     to_bits_i16(answer) != u16_at(case, at)
 }
 
 pub fn differs_i32(case: &[u8; ROOM], at: usize, answer: i32) -> bool
-    requires { ⌜ at + 4 ≤ 512 ⌝ }
+    requires { ⌜ at + 4 ≤ 1024 ⌝ }
 {
     word::to_bits_i32(answer) != u32_at(case, at)
 }
 
 pub fn differs_i64(case: &[u8; ROOM], at: usize, answer: i64) -> bool
-    requires { ⌜ at + 8 ≤ 512 ⌝ }
+    requires { ⌜ at + 8 ≤ 1024 ⌝ }
 {
     word::to_bits_i64(answer) != u64_at(case, at)
+}
+
+pub fn differs_u64(case: &[u8; ROOM], at: usize, answer: u64) -> bool
+    requires { ⌜ at + 8 ≤ 1024 ⌝ }
+{
+    answer != u64_at(case, at)
 }
 
 // Whether any of the answers differs. One that the case has no room for does.
@@ -120,6 +134,22 @@ pub fn any_differs_i64(case: &[u8; ROOM], at: usize, answers: &[i64]) -> bool {
             return true;
         }
         if differs_i64(case, at, answers[i]) {
+            return true;
+        }
+        i += 1;
+        at += 8;
+    }
+    false
+}
+
+pub fn any_differs_f64(case: &[u8; ROOM], at: usize, answers: &[f64]) -> bool {
+    let mut i = 0;
+    let mut at = at;
+    while i < answers.len() {
+        if at > ROOM - 8 {
+            return true;
+        }
+        if differs_u64(case, at, bits_of(answers[i])) {
             return true;
         }
         i += 1;

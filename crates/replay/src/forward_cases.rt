@@ -12,13 +12,13 @@ use crate::decode::u8_at;
 use fdct::Coefficient;
 
 fn whole(case: &[u8], output: &mut [i16]) -> u32
-    requires { ⌜ length (now case) ≡ 512 ⌝ }
+    requires { ⌜ length (now case) ≡ 1024 ⌝ }
 {
     fdct::fdct_quantize(&case[0..64], &case[64..128], output)
 }
 
 fn single(case: &[u8], quantizer: u8, natural: usize) -> Coefficient
-    requires { ⌜ length (now case) ≡ 512 ⌝ }
+    requires { ⌜ length (now case) ≡ 1024 ⌝ }
 {
     fdct::fdct_quantize_coefficient(&case[0..64], quantizer, natural)
 }

@@ -14,13 +14,13 @@ fn one_if(yes: bool) -> u8 {
 }
 
 fn products(case: &[u8], coefficients: &[i16], output: &mut [i32]) -> u32
-    requires { ⌜ length (now case) ≡ 512 ⌝ }
+    requires { ⌜ length (now case) ≡ 1024 ⌝ }
 {
     dequantize::dequantize(coefficients, &case[128..192], output)
 }
 
 fn screened(case: &[u8], coefficients: &[i16]) -> Answer
-    requires { ⌜ length (now case) ≡ 512 ⌝ }
+    requires { ⌜ length (now case) ≡ 1024 ⌝ }
 {
     dequantize::screen(coefficients, &case[128..192])
 }

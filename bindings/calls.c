@@ -1,0 +1,245 @@
+/* Calls every function of jpeg_block.h: known blocks, and each refusal, with the outputs and the places around them looked at.
+ * Prints what is not as expected; its status is 0 where all is. C and C++ take it. */
+#include "jpeg_block.h"
+
+#include <stdio.h>
+#include <string.h>
+
+#define GUARD 8
+#define FILL 0xa5
+
+static int failures = 0;
+
+static void expect(int as_expected, const char *name, const char *what)
+{
+    if (!as_expected) {
+        printf("%s: %s\n", name, what);
+        failures++;
+    }
+}
+
+/* whether size bytes are as they were filled */
+static int untouched(const void *from, size_t size)
+{
+    const unsigned char *bytes = (const unsigned char *)from;
+    size_t i;
+    for (i = 0; i < size; i++) {
+        if (bytes[i] != FILL) {
+            return 0;
+        }
+    }
+    return 1;
+}
+
+/* An output of at most 65 places, with places around it. */
+#define OUTPUT(T) \
+    T buffer[GUARD + 65 + GUARD]; \
+    T *const output = buffer + GUARD; \
+    memset(buffer, FILL, sizeof buffer)
+
+#define REFUSED(name, call, number) \
+    do { \
+        expect((call) == (number), name, #call " is not refused by " #number); \
+        expect(untouched(buffer, sizeof buffer), name, #call " wrote"); \
+    } while (0)
+
+/* after a call that wrote n places */
+#define WROTE(name, n) \
+    do { \
+        expect(untouched(buffer, GUARD * sizeof *buffer), name, "wrote before the output"); \
+        expect(untouched(output + (n), (65 - (n) + GUARD) * sizeof *buffer), name, "wrote after the output"); \
+    } while (0)
+
+/* One entry: n samples, all `sample` for the coefficient `value` at `place`. */
+#define INVERSE(entry, In, Out, n, place, value, sample) \
+    do { \
+        static const char name[] = #entry; \
+        In input[65] = {0}; \
+        int i; \
+        OUTPUT(Out); \
+        input[place] = (value); \
+        REFUSED(name, entry(input, 63, output, n), 1); \
+        REFUSED(name, entry(input, 65, output, n), 1); \
+        REFUSED(name, entry(input, 0, output, n), 1); \
+        REFUSED(name, entry(NULL, 0, output, n), 1); \
+        REFUSED(name, entry(input, 63, output, (n) - 1), 1); \
+        REFUSED(name, entry(NULL, 0, NULL, 0), 1); \
+        REFUSED(name, entry(input, 64, output, (n) - 1), 3); \
+        REFUSED(name, entry(input, 64, output, (n) + 1), 3); \
+        REFUSED(name, entry(input, 64, output, 0), 3); \
+        REFUSED(name, entry(input, 64, NULL, 0), 3); \
+        expect(entry(input, 64, output, n) == 0, name, "is refused"); \
+        for (i = 0; i < (n); i++) { \
+            expect(output[i] == (sample), name, #value " at " #place " does not give " #sample); \
+        } \
+        WROTE(name, n); \
+    } while (0)
+
+static void inverse_blocks(void)
+{
+    INVERSE(jpeg_block_islow_block, int16_t, uint8_t, 64, 0, 4, 129);
+    INVERSE(jpeg_block_islow_block, int16_t, uint8_t, 64, 0, 3, 128);
+    INVERSE(jpeg_block_islow_block, int16_t, uint8_t, 64, 0, -4, 128);
+    INVERSE(jpeg_block_islow_block, int16_t, uint8_t, 64, 0, -5, 127);
+    INVERSE(jpeg_block_islow_block_i32, int32_t, uint8_t, 64, 0, 4, 129);
+    INVERSE(jpeg_block_islow_block_i32, int32_t, uint8_t, 64, 0, 65536, 255);
+    INVERSE(jpeg_block_islow_block_top_half, int16_t, uint8_t, 64, 0, 4, 129);
+    INVERSE(jpeg_block_islow_block_top_half, int16_t, uint8_t, 64, 32, 1000, 128);
+    INVERSE(jpeg_block_islow_block_top_half_i32, int32_t, uint8_t, 64, 0, 65536, 255);
+    INVERSE(jpeg_block_islow_block_top_half_i32, int32_t, uint8_t, 64, 32, 1000, 128);
+    INVERSE(jpeg_block_islow_block_4x4, int16_t, uint8_t, 16, 0, 4, 129);
+    INVERSE(jpeg_block_islow_block_4x4, int16_t, uint8_t, 16, 4, 1000, 128);
+    INVERSE(jpeg_block_islow_block_2x2, int16_t, uint8_t, 4, 0, 4, 129);
+    INVERSE(jpeg_block_islow_block_2x2, int16_t, uint8_t, 4, 2, 1000, 128);
+    INVERSE(jpeg_block_islow_block_12bit, int16_t, uint16_t, 64, 0, 8, 2049);
+    INVERSE(jpeg_block_islow_block_12bit_4x4, int16_t, uint16_t, 16, 0, 8, 2049);
+    INVERSE(jpeg_block_islow_block_12bit_2x2, int16_t, uint16_t, 4, 0, 8, 2049);
+}
+
+/* All samples and all quantizers equal: DC as given, the rest 0. */
+static void equal_samples(int sample, int quantizer, int dc)
+{
+    static const char name[] = "jpeg_block_fdct_quantize";
+    uint8_t block[64], quant[64];
+    int i;
+    OUTPUT(int16_t);
+    memset(block, sample, sizeof block);
+    memset(quant, quantizer, sizeof quant);
+    expect(jpeg_block_fdct_quantize(block, 64, quant, 64, output, 64) == 0, name, "is refused");
+    for (i = 0; i < 64; i++) {
+        expect(output[i] == (i == 0 ? dc : 0), name, "a coefficient of equal samples");
+    }
+    WROTE(name, 64);
+}
+
+static void forward_block(void)
+{
+    static const char name[] = "jpeg_block_fdct_quantize";
+    const uint8_t block[65] = {0}, quant[65] = {0};
+    OUTPUT(int16_t);
+    equal_samples(128, 1, 0);
+    equal_samples(0, 1, -1024);
+    equal_samples(129, 16, 1);
+    equal_samples(127, 16, -1);
+    equal_samples(129, 17, 0);
+    equal_samples(255, 0, 1016);
+    equal_samples(255, 255, 4);
+    REFUSED(name, jpeg_block_fdct_quantize(block, 63, quant, 64, output, 64), 1);
+    REFUSED(name, jpeg_block_fdct_quantize(block, 65, quant, 64, output, 64), 1);
+    REFUSED(name, jpeg_block_fdct_quantize(NULL, 0, NULL, 0, NULL, 0), 1);
+    REFUSED(name, jpeg_block_fdct_quantize(block, 64, quant, 63, output, 64), 2);
+    REFUSED(name, jpeg_block_fdct_quantize(block, 64, quant, 65, output, 64), 2);
+    REFUSED(name, jpeg_block_fdct_quantize(block, 64, NULL, 0, output, 63), 2);
+    REFUSED(name, jpeg_block_fdct_quantize(block, 64, quant, 64, output, 63), 3);
+    REFUSED(name, jpeg_block_fdct_quantize(block, 64, quant, 64, output, 65), 3);
+    REFUSED(name, jpeg_block_fdct_quantize(block, 64, quant, 64, NULL, 0), 3);
+}
+
+static void one_coefficient(void)
+{
+    static const char name[] = "jpeg_block_fdct_quantize_coefficient";
+    uint8_t block[65];
+    OUTPUT(int16_t);
+    memset(block, 255, sizeof block);
+    REFUSED(name, jpeg_block_fdct_quantize_coefficient(block, 63, 0, 64, output, 2), 1);
+    REFUSED(name, jpeg_block_fdct_quantize_coefficient(block, 65, 0, 0, output, 1), 1);
+    REFUSED(name, jpeg_block_fdct_quantize_coefficient(NULL, 0, 0, 0, NULL, 0), 1);
+    REFUSED(name, jpeg_block_fdct_quantize_coefficient(block, 64, 0, 64, output, 1), 4);
+    REFUSED(name, jpeg_block_fdct_quantize_coefficient(block, 64, 0, SIZE_MAX, output, 2), 4);
+    REFUSED(name, jpeg_block_fdct_quantize_coefficient(block, 64, 0, 63, output, 0), 3);
+    REFUSED(name, jpeg_block_fdct_quantize_coefficient(block, 64, 0, 0, output, 2), 3);
+    REFUSED(name, jpeg_block_fdct_quantize_coefficient(block, 64, 0, 0, NULL, 0), 3);
+    expect(jpeg_block_fdct_quantize_coefficient(block, 64, 0, 0, output, 1) == 0, name, "is refused");
+    expect(output[0] == 1016, name, "DC of 255");
+    expect(jpeg_block_fdct_quantize_coefficient(block, 64, 255, 0, output, 1) == 0, name, "is refused");
+    expect(output[0] == 4, name, "DC of 255 under 255");
+    expect(jpeg_block_fdct_quantize_coefficient(block, 64, 1, 63, output, 1) == 0, name, "refuses the index 63");
+    expect(output[0] == 0, name, "coefficient 63 of 255");
+    WROTE(name, 1);
+}
+
+static void dequantized(void)
+{
+    static const char name[] = "jpeg_block_dequantize";
+    int16_t coefficients[65];
+    uint8_t quant[65];
+    int i;
+    OUTPUT(int32_t);
+    for (i = 0; i < 65; i++) {
+        coefficients[i] = (int16_t)(i % 2 == 0 ? -32768 + i : 32767 - i);
+        quant[i] = (uint8_t)(255 - i % 2 * 255);
+    }
+    REFUSED(name, jpeg_block_dequantize(coefficients, 63, quant, 63, output, 63), 1);
+    REFUSED(name, jpeg_block_dequantize(coefficients, 65, quant, 64, output, 64), 1);
+    REFUSED(name, jpeg_block_dequantize(NULL, 0, NULL, 0, NULL, 0), 1);
+    REFUSED(name, jpeg_block_dequantize(coefficients, 64, quant, 63, output, 63), 2);
+    REFUSED(name, jpeg_block_dequantize(coefficients, 64, quant, 65, output, 64), 2);
+    REFUSED(name, jpeg_block_dequantize(coefficients, 64, quant, 64, output, 63), 3);
+    REFUSED(name, jpeg_block_dequantize(coefficients, 64, quant, 64, output, 65), 3);
+    expect(jpeg_block_dequantize(coefficients, 64, quant, 64, output, 64) == 0, name, "is refused");
+    for (i = 0; i < 64; i++) {
+        expect(output[i] == (i % 2 == 0 ? (-32768 + i) * 255 : 32767 - i), name, "a product");
+    }
+    WROTE(name, 64);
+}
+
+static void screened(void)
+{
+    static const char name[] = "jpeg_block_screen";
+    static const struct { int value, quantizer, yes; } cases[] = {
+        {0, 0, 1}, {1023, 1, 1}, {1024, 1, 0}, {-1024, 0, 1}, {-1025, 0, 0}, {-128, 8, 1}, {128, 8, 0}, {-32768, 255, 0},
+    };
+    int16_t coefficients[65] = {0};
+    uint8_t quant[65] = {0};
+    size_t i;
+    OUTPUT(uint8_t);
+    REFUSED(name, jpeg_block_screen(coefficients, 63, quant, 63, output, 0), 1);
+    REFUSED(name, jpeg_block_screen(coefficients, 65, quant, 64, output, 1), 1);
+    REFUSED(name, jpeg_block_screen(NULL, 0, NULL, 0, NULL, 0), 1);
+    REFUSED(name, jpeg_block_screen(coefficients, 64, quant, 63, output, 0), 2);
+    REFUSED(name, jpeg_block_screen(coefficients, 64, quant, 65, output, 1), 2);
+    REFUSED(name, jpeg_block_screen(coefficients, 64, quant, 64, output, 0), 3);
+    REFUSED(name, jpeg_block_screen(coefficients, 64, quant, 64, output, 2), 3);
+    for (i = 0; i < sizeof cases / sizeof *cases; i++) {
+        coefficients[63] = (int16_t)cases[i].value;
+        quant[63] = (uint8_t)cases[i].quantizer;
+        expect(jpeg_block_screen(coefficients, 64, quant, 64, output, 1) == 0, name, "is refused");
+        expect(output[0] == cases[i].yes, name, "a yes or a no");
+    }
+    WROTE(name, 1);
+}
+
+static void same_blocks(void)
+{
+    static const char name[] = "jpeg_block_same";
+    int16_t a[65] = {0}, b[65] = {0};
+    OUTPUT(uint8_t);
+    REFUSED(name, jpeg_block_same(a, 63, b, 64, output, 1), 1);
+    REFUSED(name, jpeg_block_same(a, 64, b, 65, output, 0), 1);
+    REFUSED(name, jpeg_block_same(NULL, 0, NULL, 0, NULL, 0), 1);
+    REFUSED(name, jpeg_block_same(a, 64, b, 64, output, 0), 3);
+    REFUSED(name, jpeg_block_same(a, 64, b, 64, output, 2), 3);
+    b[64] = 1;
+    expect(jpeg_block_same(a, 64, b, 64, output, 1) == 0, name, "is refused");
+    expect(output[0] == 1, name, "equal blocks");
+    expect(jpeg_block_same(b, 64, b, 64, output, 1) == 0, name, "is refused for one block lent twice");
+    expect(output[0] == 1, name, "a block and itself");
+    b[63] = -1;
+    expect(jpeg_block_same(a, 64, b, 64, output, 1) == 0, name, "is refused");
+    expect(output[0] == 0, name, "blocks that differ at 63");
+    WROTE(name, 1);
+}
+
+int main(void)
+{
+    inverse_blocks();
+    forward_block();
+    one_coefficient();
+    dequantized();
+    screened();
+    same_blocks();
+    if (failures == 0) {
+        printf("every call is as expected\n");
+    }
+    return failures != 0;
+}

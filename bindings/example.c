@@ -1,0 +1,59 @@
+/* Codes a block of samples, screens and dequantizes its coefficients, and decodes them again. C and C++ take it. */
+#include "jpeg_block.h"
+
+#include <stdio.h>
+#include <stdlib.h>
+
+int main(void)
+{
+    uint8_t block[64], quant[64], decoded[64], yes[1];
+    int16_t coefficients[64], dc[1];
+    int32_t products[64];
+    uint32_t status;
+    int n, nonzero = 0, largest = 0;
+
+    for (n = 0; n < 64; n++) {
+        block[n] = (uint8_t)(64 + 9 * (n % 8) + 5 * (n / 8));
+        quant[n] = 16;
+    }
+    status = jpeg_block_fdct_quantize(block, 64, quant, 64, coefficients, 64);
+    if (status != JPEG_BLOCK_OK) {
+        return EXIT_FAILURE;
+    }
+    for (n = 0; n < 64; n++) {
+        nonzero += coefficients[n] != 0;
+    }
+    printf("coefficients that are not zero: %d\n", nonzero);
+
+    status = jpeg_block_fdct_quantize_coefficient(block, 64, 16, 0, dc, 1);
+    if (status != JPEG_BLOCK_OK) {
+        return EXIT_FAILURE;
+    }
+    printf("DC: %d\n", dc[0]);
+
+    status = jpeg_block_screen(coefficients, 64, quant, 64, yes, 1);
+    if (status != JPEG_BLOCK_OK) {
+        return EXIT_FAILURE;
+    }
+    printf("screen: %s\n", yes[0] == 1 ? "yes" : "no");
+
+    status = jpeg_block_dequantize(coefficients, 64, quant, 64, products, 64);
+    if (status != JPEG_BLOCK_OK) {
+        return EXIT_FAILURE;
+    }
+    status = jpeg_block_islow_block_i32(products, 64, decoded, 64);
+    if (status != JPEG_BLOCK_OK) {
+        return EXIT_FAILURE;
+    }
+    for (n = 0; n < 64; n++) {
+        int off = abs((int)block[n] - (int)decoded[n]);
+        if (off > largest) {
+            largest = off;
+        }
+    }
+    printf("largest difference of a sample: %d\n", largest);
+
+    status = jpeg_block_islow_block_i32(products, 64, decoded, 63);
+    printf("an output of 63 places: refused %u\n", (unsigned)status);
+    return EXIT_SUCCESS;
+}

@@ -1,0 +1,40 @@
+//! Codes a block of samples, screens and dequantizes its coefficients, and
+//! decodes them again.
+
+mod jpeg_block;
+
+fn run() -> Result<(), u32> {
+    let block: [u8; 64] = std::array::from_fn(|n| (64 + 9 * (n % 8) + 5 * (n / 8)) as u8);
+    let quant = [16; 64];
+    let mut coefficients = [0; 64];
+    jpeg_block::fdct_quantize(&block, &quant, &mut coefficients)?;
+    let nonzero = coefficients.iter().filter(|&&c| c != 0).count();
+    println!("coefficients that are not zero: {nonzero}");
+
+    let dc = jpeg_block::fdct_quantize_coefficient(&block, 16, 0)?;
+    println!("DC: {dc}");
+
+    let yes = jpeg_block::screen(&coefficients, &quant)?;
+    println!("screen: {}", if yes { "yes" } else { "no" });
+
+    let mut products = [0; 64];
+    jpeg_block::dequantize(&coefficients, &quant, &mut products)?;
+    let mut decoded = [0; 64];
+    jpeg_block::islow_block_i32(&products, &mut decoded)?;
+    let largest = block
+        .iter()
+        .zip(&decoded)
+        .map(|(a, b)| a.abs_diff(*b))
+        .max()
+        .unwrap_or(0);
+    println!("largest difference of a sample: {largest}");
+
+    if let Err(number) = jpeg_block::islow_block_i32(&products, &mut decoded[..63]) {
+        println!("an output of 63 places: refused {number}");
+    }
+    Ok(())
+}
+
+fn main() {
+    run().expect("no call is refused");
+}

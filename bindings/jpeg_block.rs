@@ -1,0 +1,245 @@
+//! The functions of `libjpeg_block.a` (include/jpeg_block.h) for Rust, on slices.
+//!
+//! `rt staticlib jpeg_block` writes the archive; a crate takes this file as a
+//! module and is linked with `-L native=` its folder. A refusal is `Err` of its
+//! number, and then nothing is written. A slice meets what the header asks of a
+//! caller, so the functions are safe.
+
+/// The functions as the archive has them: a slice is a pointer and a length.
+pub mod raw {
+    #[link(name = "jpeg_block", kind = "static")]
+    extern "C" {
+        pub fn jpeg_block_islow_block(
+            input: *const i16,
+            input_len: usize,
+            output: *mut u8,
+            output_len: usize,
+        ) -> u32;
+        pub fn jpeg_block_islow_block_i32(
+            input: *const i32,
+            input_len: usize,
+            output: *mut u8,
+            output_len: usize,
+        ) -> u32;
+        pub fn jpeg_block_islow_block_top_half(
+            input: *const i16,
+            input_len: usize,
+            output: *mut u8,
+            output_len: usize,
+        ) -> u32;
+        pub fn jpeg_block_islow_block_top_half_i32(
+            input: *const i32,
+            input_len: usize,
+            output: *mut u8,
+            output_len: usize,
+        ) -> u32;
+        pub fn jpeg_block_islow_block_4x4(
+            input: *const i16,
+            input_len: usize,
+            output: *mut u8,
+            output_len: usize,
+        ) -> u32;
+        pub fn jpeg_block_islow_block_2x2(
+            input: *const i16,
+            input_len: usize,
+            output: *mut u8,
+            output_len: usize,
+        ) -> u32;
+        pub fn jpeg_block_islow_block_12bit(
+            input: *const i16,
+            input_len: usize,
+            output: *mut u16,
+            output_len: usize,
+        ) -> u32;
+        pub fn jpeg_block_islow_block_12bit_4x4(
+            input: *const i16,
+            input_len: usize,
+            output: *mut u16,
+            output_len: usize,
+        ) -> u32;
+        pub fn jpeg_block_islow_block_12bit_2x2(
+            input: *const i16,
+            input_len: usize,
+            output: *mut u16,
+            output_len: usize,
+        ) -> u32;
+        pub fn jpeg_block_fdct_quantize(
+            block: *const u8,
+            block_len: usize,
+            quant: *const u8,
+            quant_len: usize,
+            out: *mut i16,
+            out_len: usize,
+        ) -> u32;
+        pub fn jpeg_block_fdct_quantize_coefficient(
+            block: *const u8,
+            block_len: usize,
+            quantizer: u8,
+            natural: usize,
+            out: *mut i16,
+            out_len: usize,
+        ) -> u32;
+        pub fn jpeg_block_dequantize(
+            coefficients: *const i16,
+            coefficients_len: usize,
+            quant: *const u8,
+            quant_len: usize,
+            out: *mut i32,
+            out_len: usize,
+        ) -> u32;
+        pub fn jpeg_block_screen(
+            coefficients: *const i16,
+            coefficients_len: usize,
+            quant: *const u8,
+            quant_len: usize,
+            yes: *mut u8,
+            yes_len: usize,
+        ) -> u32;
+        pub fn jpeg_block_same(
+            a: *const i16,
+            a_len: usize,
+            b: *const i16,
+            b_len: usize,
+            yes: *mut u8,
+            yes_len: usize,
+        ) -> u32;
+    }
+}
+
+fn answer<T>(status: u32, value: T) -> Result<T, u32> {
+    if status == 0 {
+        Ok(value)
+    } else {
+        Err(status)
+    }
+}
+
+macro_rules! inverse {
+    ($($(#[$says:meta])* $name:ident, $raw:ident, $input:ty => $output:ty;)*) => {$(
+        $(#[$says])*
+        ///
+        /// Refusals: 1, an input not of 64 places; 3, an output of the wrong length.
+        #[inline]
+        pub fn $name(input: &[$input], output: &mut [$output]) -> Result<(), u32> {
+            // SAFETY: both are slices, and an exclusive one overlaps no other.
+            let status = unsafe {
+                raw::$raw(input.as_ptr(), input.len(), output.as_mut_ptr(), output.len())
+            };
+            answer(status, ())
+        }
+    )*};
+}
+
+inverse! {
+    /// 8x8 samples of 8 bits.
+    islow_block, jpeg_block_islow_block, i16 => u8;
+    /// 8x8 samples of 8 bits.
+    islow_block_i32, jpeg_block_islow_block_i32, i32 => u8;
+    /// 8x8 samples of 8 bits of a block whose rows 4 to 7 count as zero.
+    islow_block_top_half, jpeg_block_islow_block_top_half, i16 => u8;
+    /// 8x8 samples of 8 bits of a block whose rows 4 to 7 count as zero.
+    islow_block_top_half_i32, jpeg_block_islow_block_top_half_i32, i32 => u8;
+    /// 4x4 samples of 8 bits.
+    islow_block_4x4, jpeg_block_islow_block_4x4, i16 => u8;
+    /// 2x2 samples of 8 bits.
+    islow_block_2x2, jpeg_block_islow_block_2x2, i16 => u8;
+    /// 8x8 samples of 12 bits.
+    islow_block_12bit, jpeg_block_islow_block_12bit, i16 => u16;
+    /// 4x4 samples of 12 bits.
+    islow_block_12bit_4x4, jpeg_block_islow_block_12bit_4x4, i16 => u16;
+    /// 2x2 samples of 12 bits.
+    islow_block_12bit_2x2, jpeg_block_islow_block_12bit_2x2, i16 => u16;
+}
+
+/// The 64 canonical coefficients of a block. Refusals: 1, a block not of 64
+/// places; 2, a table not of 64; 3, an output not of 64.
+#[inline]
+pub fn fdct_quantize(block: &[u8], quant: &[u8], out: &mut [i16]) -> Result<(), u32> {
+    // SAFETY: all are slices, and an exclusive one overlaps no other.
+    let status = unsafe {
+        raw::jpeg_block_fdct_quantize(
+            block.as_ptr(),
+            block.len(),
+            quant.as_ptr(),
+            quant.len(),
+            out.as_mut_ptr(),
+            out.len(),
+        )
+    };
+    answer(status, ())
+}
+
+/// The canonical coefficient at the index `natural`. Refusals: 1, a block not
+/// of 64 places; 4, an index above 63.
+#[inline]
+pub fn fdct_quantize_coefficient(block: &[u8], quantizer: u8, natural: usize) -> Result<i16, u32> {
+    let mut place = [0];
+    // SAFETY: both are slices, and the place is this function's own.
+    let status = unsafe {
+        raw::jpeg_block_fdct_quantize_coefficient(
+            block.as_ptr(),
+            block.len(),
+            quantizer,
+            natural,
+            place.as_mut_ptr(),
+            place.len(),
+        )
+    };
+    answer(status, place[0])
+}
+
+/// Each coefficient times its quantizer, 0 counting as 1. Refusals: 1, a block
+/// not of 64 places; 2, a table not of 64; 3, an output not of 64.
+#[inline]
+pub fn dequantize(coefficients: &[i16], quant: &[u8], out: &mut [i32]) -> Result<(), u32> {
+    // SAFETY: all are slices, and an exclusive one overlaps no other.
+    let status = unsafe {
+        raw::jpeg_block_dequantize(
+            coefficients.as_ptr(),
+            coefficients.len(),
+            quant.as_ptr(),
+            quant.len(),
+            out.as_mut_ptr(),
+            out.len(),
+        )
+    };
+    answer(status, ())
+}
+
+/// Whether every such product lies in -1024..=1023. Refusals: 1, a block not of
+/// 64 places; 2, a table not of 64.
+#[inline]
+pub fn screen(coefficients: &[i16], quant: &[u8]) -> Result<bool, u32> {
+    let mut place = [0];
+    // SAFETY: all are slices, and the place is this function's own.
+    let status = unsafe {
+        raw::jpeg_block_screen(
+            coefficients.as_ptr(),
+            coefficients.len(),
+            quant.as_ptr(),
+            quant.len(),
+            place.as_mut_ptr(),
+            place.len(),
+        )
+    };
+    answer(status, place[0] == 1)
+}
+
+/// Whether all 64 coefficients are equal. Refusal: 1, either block not of 64
+/// places.
+#[inline]
+pub fn same(a: &[i16], b: &[i16]) -> Result<bool, u32> {
+    let mut place = [0];
+    // SAFETY: all are slices, and the place is this function's own.
+    let status = unsafe {
+        raw::jpeg_block_same(
+            a.as_ptr(),
+            a.len(),
+            b.as_ptr(),
+            b.len(),
+            place.as_mut_ptr(),
+            place.len(),
+        )
+    };
+    answer(status, place[0] == 1)
+}

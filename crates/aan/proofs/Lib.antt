@@ -1,0 +1,4 @@
+pub mod Zero
+pub mod Answer
+pub mod ByColumns
+pub mod Values

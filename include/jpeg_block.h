@@ -1,0 +1,79 @@
+/* JPEG 8x8 block transforms: the functions of libjpeg_block.a, which `rt staticlib jpeg_block` writes (x86-64 Linux).
+ *
+ * A block is 64 numbers in natural order: index 8v + u for frequencies, 8y + x for samples (u and x across). A quantizer table is 64
+ * quantizers in the same order; a quantizer 0 counts as 1.
+ *
+ * Each buffer is a pointer and its length, the number of elements and not of bytes. Each function returns 0, and has then written the
+ * whole of its output; or a refusal's number, and has then written nothing:
+ *
+ *   1  an input block that is not of 64 places
+ *   2  a quantizer table that is not of 64
+ *   3  an output of the wrong length
+ *   4  an index above 63
+ *
+ * The tests run in the order in which each function lists its numbers, and the first that fails is answered. No function keeps a
+ * pointer, allocates, or has a state: calls may run in parallel, also over shared inputs.
+ *
+ * What the caller guarantees, since no function can test it: each pointer is aligned for its type and valid for its length, for
+ * reading, an output also for writing, until the call returns; the output overlaps no other buffer of the call and nobody else
+ * touches it meanwhile. Two inputs may overlap. A buffer of length 0 is not looked at: its pointer may be anything, NULL too.
+ */
+#ifndef JPEG_BLOCK_H
+#define JPEG_BLOCK_H
+
+#include <stddef.h>
+#include <stdint.h>
+
+#ifdef __cplusplus
+extern "C" {
+#endif
+
+#define JPEG_BLOCK_OK 0
+#define JPEG_BLOCK_REFUSED_BLOCK 1
+#define JPEG_BLOCK_REFUSED_TABLE 2
+#define JPEG_BLOCK_REFUSED_OUTPUT 3
+#define JPEG_BLOCK_REFUSED_INDEX 4
+
+/* The inverse transforms (ISLOW) of 64 dequantized coefficients. Refusals 1, 3. */
+
+/* 8x8 samples of 8 bits; output_len 64. The sums wrap at 32 bits. */
+uint32_t jpeg_block_islow_block(const int16_t *input, size_t input_len, uint8_t *output, size_t output_len);
+uint32_t jpeg_block_islow_block_i32(const int32_t *input, size_t input_len, uint8_t *output, size_t output_len);
+
+/* The same of a block whose rows 4 to 7 (entries 32 to 63) count as zero: they are not read, but belong to the 64 places. */
+uint32_t jpeg_block_islow_block_top_half(const int16_t *input, size_t input_len, uint8_t *output, size_t output_len);
+uint32_t jpeg_block_islow_block_top_half_i32(const int32_t *input, size_t input_len, uint8_t *output, size_t output_len);
+
+/* 4x4 and 2x2 samples of 8 bits; output_len 16 and 4. */
+uint32_t jpeg_block_islow_block_4x4(const int16_t *input, size_t input_len, uint8_t *output, size_t output_len);
+uint32_t jpeg_block_islow_block_2x2(const int16_t *input, size_t input_len, uint8_t *output, size_t output_len);
+
+/* 8x8, 4x4 and 2x2 samples of 12 bits, 0 to 4095; output_len 64, 16 and 4. */
+uint32_t jpeg_block_islow_block_12bit(const int16_t *input, size_t input_len, uint16_t *output, size_t output_len);
+uint32_t jpeg_block_islow_block_12bit_4x4(const int16_t *input, size_t input_len, uint16_t *output, size_t output_len);
+uint32_t jpeg_block_islow_block_12bit_2x2(const int16_t *input, size_t input_len, uint16_t *output, size_t output_len);
+
+/* The canonical forward transform of 64 samples of 8 bits, quantized: each quotient rounded to nearest, halves away from zero. */
+
+/* All 64 coefficients; out_len 64. Refusals 1, 2, 3. */
+uint32_t jpeg_block_fdct_quantize(const uint8_t *block, size_t block_len, const uint8_t *quant, size_t quant_len, int16_t *out, size_t out_len);
+
+/* The coefficient at the index `natural` under one quantizer, into out[0]; out_len 1. Refusals 1, 4, 3. */
+uint32_t jpeg_block_fdct_quantize_coefficient(const uint8_t *block, size_t block_len, uint8_t quantizer, size_t natural, int16_t *out, size_t out_len);
+
+/* Blocks of 64 stored coefficients. */
+
+/* Each coefficient times its quantizer; out_len 64. Refusals 1, 2, 3. */
+uint32_t jpeg_block_dequantize(const int16_t *coefficients, size_t coefficients_len, const uint8_t *quant, size_t quant_len, int32_t *out, size_t out_len);
+
+/* Into yes[0]: 1 when every such product lies in -1024 to 1023, else 0; yes_len 1. Refusals 1, 2, 3. */
+uint32_t jpeg_block_screen(const int16_t *coefficients, size_t coefficients_len, const uint8_t *quant, size_t quant_len, uint8_t *yes, size_t yes_len);
+
+/* Into yes[0]: 1 when all 64 coefficients are equal, else 0; yes_len 1. Refusals 1 for either block, 3. */
+uint32_t jpeg_block_same(const int16_t *a, size_t a_len, const int16_t *b, size_t b_len, uint8_t *yes, size_t yes_len);
+
+#ifdef __cplusplus
+}
+#endif
+
+#endif

@@ -1,0 +1,303 @@
+//! Times every function of libjpeg_block.a beside the published Rust's, on the
+//! same inputs, in turn. The Rust has no dequantizing, screen or sameness; the
+//! plain loops below stand in its place.
+//!
+//! No arguments: a line for each function and kind of block, `NAME KIND RUST_NS
+//! OURS_NS RATIO`, the medians over the rounds. `count KIND`: calls each
+//! function that has this kind, and the Rust's, once for each of the 64 blocks,
+//! for a tool that counts instructions; `kinds`: the names of the kinds.
+
+#[allow(dead_code)]
+#[path = "../bindings/jpeg_block.rs"]
+mod jpeg_block;
+#[allow(dead_code)]
+mod numbers;
+
+use j2k_codec_math::jpeg::{fdct, idct};
+use numbers::{Random, SEED};
+use std::hint::black_box;
+use std::time::Instant;
+
+/// Blocks of a kind: few enough to stay in the nearest cache.
+const BLOCKS: usize = 64;
+const ROUNDS: usize = 501;
+/// The time of one round of one side: so short that other programs interrupt
+/// few of them, and the median is of an undisturbed one.
+const ROUND_NS: f64 = 50_000.0;
+
+/// The Rust's functions, each under a name that a profile shows.
+macro_rules! rust {
+    ($($name:ident($($arg:ident: $t:ty),*) $body:block)*) => {$(
+        #[inline(never)]
+        #[no_mangle]
+        fn $name($($arg: $t),*) $body
+    )*};
+}
+
+rust! {
+    rust_islow_block(input: &[i16; 64], output: &mut [u8; 64]) {
+        idct::islow_block(input, output);
+    }
+    rust_islow_block_i32(input: &[i32; 64], output: &mut [u8; 64]) {
+        idct::islow_block(input, output);
+    }
+    rust_islow_block_top_half(input: &[i16; 64], output: &mut [u8; 64]) {
+        idct::islow_block_top_half(input, output);
+    }
+    rust_islow_block_top_half_i32(input: &[i32; 64], output: &mut [u8; 64]) {
+        idct::islow_block_top_half(input, output);
+    }
+    rust_islow_block_4x4(input: &[i16; 64], output: &mut [u8; 16]) {
+        idct::islow_block_4x4(input, output);
+    }
+    rust_islow_block_2x2(input: &[i16; 64], output: &mut [u8; 4]) {
+        idct::islow_block_2x2(input, output);
+    }
+    rust_islow_block_12bit(input: &[i16; 64], output: &mut [u16; 64]) {
+        idct::islow_block_12bit(input, output);
+    }
+    rust_islow_block_12bit_4x4(input: &[i16; 64], output: &mut [u16; 16]) {
+        idct::islow_block_12bit_4x4(input, output);
+    }
+    rust_islow_block_12bit_2x2(input: &[i16; 64], output: &mut [u16; 4]) {
+        idct::islow_block_12bit_2x2(input, output);
+    }
+    rust_fdct_quantize(input: &([u8; 64], [u8; 64]), output: &mut [i16; 64]) {
+        *output = fdct::fdct_quantize(&input.0, &input.1);
+    }
+    rust_fdct_quantize_coefficient(input: &([u8; 64], u8, usize), output: &mut i16) {
+        *output = fdct::fdct_quantize_coefficient(&input.0, input.1, input.2);
+    }
+    rust_dequantize(input: &([i16; 64], [u8; 64]), output: &mut [i32; 64]) {
+        for n in 0..64 {
+            output[n] = i32::from(input.0[n]) * i32::from(input.1[n].max(1));
+        }
+    }
+    rust_screen(input: &([i16; 64], [u8; 64]), output: &mut bool) {
+        *output = (0..64).all(|n| {
+            let product = i32::from(input.0[n]) * i32::from(input.1[n].max(1));
+            (-1_024..=1_023).contains(&product)
+        });
+    }
+    rust_same(input: &([i16; 64], [i16; 64]), output: &mut bool) {
+        *output = input.0 == input.1;
+    }
+}
+
+enum Mode {
+    Time,
+    Count(String),
+    Kinds(Vec<&'static str>),
+}
+
+fn median(mut all: Vec<f64>) -> f64 {
+    all.sort_by(f64::total_cmp);
+    all[all.len() / 2]
+}
+
+/// Runs over the blocks so many times, and answers the time of one call.
+fn pass<I, O>(inputs: &[I], output: &mut O, turns: usize, call: impl Fn(&I, &mut O)) -> f64 {
+    let start = Instant::now();
+    for _ in 0..turns {
+        for input in inputs {
+            call(black_box(input), black_box(output));
+        }
+    }
+    start.elapsed().as_nanos() as f64 / (turns * inputs.len()) as f64
+}
+
+impl Mode {
+    fn run<I, O>(
+        &mut self,
+        name: &str,
+        kind: &'static str,
+        inputs: &[I],
+        mut output: O,
+        rust: impl Fn(&I, &mut O),
+        ours: impl Fn(&I, &mut O),
+    ) {
+        match self {
+            Mode::Kinds(kinds) => {
+                if !kinds.contains(&kind) {
+                    kinds.push(kind);
+                }
+            }
+            Mode::Count(only) => {
+                if only == kind {
+                    pass(inputs, &mut output, 1, &rust);
+                    pass(inputs, &mut output, 1, &ours);
+                }
+            }
+            Mode::Time => {
+                let once = (0..9)
+                    .map(|_| pass(inputs, &mut output, 1, &rust))
+                    .collect();
+                let once = median(once) * inputs.len() as f64;
+                let turns = 1 + (ROUND_NS / once) as usize;
+                let (mut theirs, mut here) = (Vec::new(), Vec::new());
+                for _ in 0..ROUNDS {
+                    theirs.push(pass(inputs, &mut output, turns, &rust));
+                    here.push(pass(inputs, &mut output, turns, &ours));
+                }
+                let (theirs, here) = (median(theirs), median(here));
+                println!("{name} {kind} {theirs:.1} {here:.1} {:.2}", here / theirs);
+            }
+        }
+    }
+}
+
+/// 64 blocks of one kind.
+fn many<I>(mut at: impl FnMut(&mut Random) -> I) -> Vec<I> {
+    let mut random = Random(SEED);
+    (0..BLOCKS).map(|_| at(&mut random)).collect()
+}
+
+fn within(random: &mut Random, size: u64) -> i64 {
+    random.below(2 * size + 1) as i64 - size as i64
+}
+
+/// Coefficients that are all likely nonzero, small or of the size of DC; a DC
+/// and a few low frequencies, as most blocks of a picture have; DC alone.
+fn coefficients<T: TryFrom<i64>>() -> Vec<(&'static str, Vec<[T; 64]>)> {
+    let of = |x: i64| T::try_from(x).ok().expect("a coefficient");
+    vec![
+        (
+            "dense15",
+            many(|r| core::array::from_fn(|_| of(within(r, 15)))),
+        ),
+        (
+            "dense1023",
+            many(|r| core::array::from_fn(|_| of(within(r, 1_023)))),
+        ),
+        (
+            "sparse",
+            many(|r| {
+                let mut block = [0; 64];
+                block[0] = within(r, 1_023);
+                for _ in 0..5 {
+                    block[(8 * r.below(3) + r.below(3)) as usize] = within(r, 60);
+                }
+                block.map(of)
+            }),
+        ),
+        (
+            "dc",
+            many(|r| {
+                let mut block = [0; 64];
+                block[0] = within(r, 1_023);
+                block.map(of)
+            }),
+        ),
+    ]
+}
+
+fn samples() -> Vec<(&'static str, Vec<[u8; 64]>)> {
+    vec![
+        ("random", many(|r| core::array::from_fn(|_| r.next() as u8))),
+        (
+            "smooth",
+            many(|r| {
+                let (level, across, down) = (r.below(64), r.below(12), r.below(12));
+                core::array::from_fn(|n| {
+                    (level + across * (n as u64 % 8) + down * (n as u64 / 8) + r.below(3)) as u8
+                })
+            }),
+        ),
+        ("constant", many(|r| [r.next() as u8; 64])),
+    ]
+}
+
+fn table(random: &mut Random) -> [u8; 64] {
+    core::array::from_fn(|_| 1 + random.below(99) as u8)
+}
+
+macro_rules! inverse {
+    ($mode:ident, $($name:ident $rust:ident $t:ty => [$s:ty; $n:literal];)*) => {$(
+        for (kind, inputs) in coefficients::<$t>() {
+            $mode.run(stringify!($name), kind, &inputs, [0 as $s; $n], $rust, |input, output| {
+                black_box(jpeg_block::$name(input, output)).expect("no refusal");
+            });
+        }
+    )*};
+}
+
+fn main() {
+    let mut args = std::env::args().skip(1);
+    let mut mode = match args.next().as_deref() {
+        Some("count") => Mode::Count(args.next().expect("a kind")),
+        Some("kinds") => Mode::Kinds(Vec::new()),
+        _ => Mode::Time,
+    };
+    inverse! { mode,
+        islow_block rust_islow_block i16 => [u8; 64];
+        islow_block_i32 rust_islow_block_i32 i32 => [u8; 64];
+        islow_block_top_half rust_islow_block_top_half i16 => [u8; 64];
+        islow_block_top_half_i32 rust_islow_block_top_half_i32 i32 => [u8; 64];
+        islow_block_4x4 rust_islow_block_4x4 i16 => [u8; 16];
+        islow_block_2x2 rust_islow_block_2x2 i16 => [u8; 4];
+        islow_block_12bit rust_islow_block_12bit i16 => [u16; 64];
+        islow_block_12bit_4x4 rust_islow_block_12bit_4x4 i16 => [u16; 16];
+        islow_block_12bit_2x2 rust_islow_block_12bit_2x2 i16 => [u16; 4];
+    }
+    for (kind, blocks) in samples() {
+        let mut random = Random(SEED);
+        let whole: Vec<_> = blocks.iter().map(|b| (*b, table(&mut random))).collect();
+        mode.run(
+            "fdct_quantize",
+            kind,
+            &whole,
+            [0; 64],
+            rust_fdct_quantize,
+            |(block, quant), output| {
+                black_box(jpeg_block::fdct_quantize(block, quant, output)).expect("no refusal");
+            },
+        );
+        let single: Vec<_> = (0..BLOCKS)
+            .map(|n| (blocks[n], 1 + 3 * n as u8, n))
+            .collect();
+        mode.run(
+            "fdct_quantize_coefficient",
+            kind,
+            &single,
+            0,
+            rust_fdct_quantize_coefficient,
+            |(block, quantizer, natural), output| {
+                *output = jpeg_block::fdct_quantize_coefficient(block, *quantizer, *natural)
+                    .expect("no refusal");
+            },
+        );
+    }
+    for (kind, blocks) in coefficients::<i16>() {
+        let mut random = Random(SEED);
+        let stored: Vec<_> = blocks.iter().map(|b| (*b, table(&mut random))).collect();
+        mode.run(
+            "dequantize",
+            kind,
+            &stored,
+            [0; 64],
+            rust_dequantize,
+            |(coefficients, quant), output| {
+                black_box(jpeg_block::dequantize(coefficients, quant, output)).expect("no refusal");
+            },
+        );
+        // All in range, so that every place is looked at.
+        let narrow: Vec<_> = blocks.iter().map(|b| (*b, [1; 64])).collect();
+        mode.run(
+            "screen",
+            kind,
+            &narrow,
+            false,
+            rust_screen,
+            |(coefficients, quant), output| {
+                *output = jpeg_block::screen(coefficients, quant).expect("no refusal");
+            },
+        );
+        let pairs: Vec<_> = blocks.iter().map(|b| (*b, *b)).collect();
+        mode.run("same", kind, &pairs, false, rust_same, |(a, b), output| {
+            *output = jpeg_block::same(a, b).expect("no refusal");
+        });
+    }
+    if let Mode::Kinds(kinds) = mode {
+        println!("{}", kinds.join(" "));
+    }
+}
