@@ -1,4 +1,4 @@
-// The f64 forward transform and its divisors (transform.rs, scalar road; document 01, "The guarded quantizer").
+// The f64 forward transform and its divisors (transform.rs, scalar code; document 01, "The guarded quantizer").
 //
 // The 1-D transform of Arai, Agui and Nakajima has five products and leaves output u larger by 2√2·AAN_SCALE[u]; the divisors take
 // the scales of both directions off together with the quantizer. Each operation is rounded once, in the Rust's order: the definitions

@@ -74,7 +74,7 @@ fn products_in_range(coefficients: &[i16], quant: &[u8]) -> bool
     true
 }
 
-// Whether every product lies in the range of an honest coder's DC.
+// Whether every product lies in -1024..1023.
 pub fn screen(coefficients: &[i16], quant: &[u8]) -> Answer
     ensures { λ r. ⌜ r ≡ screenAnswer (now (coefficients .entry)) (now (quant .entry)) ⌝ }
 {

@@ -1,4 +1,4 @@
-// The guarded quantizer (transform.rs, scalar road of `fdct_quantize`; document 01, "The guarded quantizer").
+// The guarded quantizer (transform.rs, `fdct_quantize` without its vector code; document 01, "The guarded quantizer").
 //
 // The f64 transform and one product give each coefficient, unless the product lies so near to a half that its rounding error could
 // decide: there the canonical transform does.
