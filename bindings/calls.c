@@ -158,6 +158,74 @@ static void one_coefficient(void)
     WROTE(name, 1);
 }
 
+/* The divisor of DC is the reciprocal of 8 times its quantizer. */
+static void divisors_made(void)
+{
+    static const char name[] = "jpeg_block_quantization_divisors";
+    uint8_t quant[65];
+    OUTPUT(double);
+    memset(quant, 16, sizeof quant);
+    REFUSED(name, jpeg_block_quantization_divisors(quant, 63, output, 63), 2);
+    REFUSED(name, jpeg_block_quantization_divisors(quant, 65, output, 64), 2);
+    REFUSED(name, jpeg_block_quantization_divisors(NULL, 0, NULL, 0), 2);
+    REFUSED(name, jpeg_block_quantization_divisors(quant, 64, output, 63), 3);
+    REFUSED(name, jpeg_block_quantization_divisors(quant, 64, output, 65), 3);
+    quant[63] = 0;
+    REFUSED(name, jpeg_block_quantization_divisors(quant, 64, output, 63), 5);
+    quant[63] = 1;
+    expect(jpeg_block_quantization_divisors(quant, 64, output, 64) == 0, name, "is refused");
+    expect(output[0] == 1.0 / 128.0, name, "the divisor of DC");
+    WROTE(name, 64);
+}
+
+/* The left half of the block 0, the right half 255: AC at u = 1, 3, 5, 7 alone. `buffer` is the AC output. */
+static void guarded(void)
+{
+    static const char name[] = "jpeg_block_fdct_quantize_guarded";
+    static const int places[] = {1, 6, 15, 28};
+    uint8_t block[65], quant[65];
+    double divisors[65];
+    int16_t dc[2] = {7, 7}, canonical[1];
+    uint64_t bitmap[2] = {7, 7}, expected = 0;
+    int i, u;
+    OUTPUT(int16_t);
+    for (i = 0; i < 65; i++) {
+        block[i] = i % 8 < 4 ? 0 : 255;
+        quant[i] = 10;
+        divisors[i] = 0.0;
+    }
+    expect(jpeg_block_quantization_divisors(quant, 64, divisors, 64) == 0, name, "no divisors");
+    REFUSED(name, jpeg_block_fdct_quantize_guarded(block, 63, quant, 63, divisors, 63, dc, 0, output, 63, bitmap, 0), 1);
+    REFUSED(name, jpeg_block_fdct_quantize_guarded(NULL, 0, NULL, 0, NULL, 0, NULL, 0, NULL, 0, NULL, 0), 1);
+    REFUSED(name, jpeg_block_fdct_quantize_guarded(block, 64, quant, 65, divisors, 63, dc, 0, output, 63, bitmap, 0), 2);
+    REFUSED(name, jpeg_block_fdct_quantize_guarded(block, 64, quant, 64, divisors, 63, dc, 0, output, 63, bitmap, 0), 2);
+    REFUSED(name, jpeg_block_fdct_quantize_guarded(block, 64, quant, 64, divisors, 65, dc, 1, output, 64, bitmap, 1), 2);
+    REFUSED(name, jpeg_block_fdct_quantize_guarded(block, 64, quant, 64, divisors, 64, dc, 0, output, 64, bitmap, 1), 3);
+    REFUSED(name, jpeg_block_fdct_quantize_guarded(block, 64, quant, 64, divisors, 64, dc, 2, output, 64, bitmap, 1), 3);
+    REFUSED(name, jpeg_block_fdct_quantize_guarded(block, 64, quant, 64, divisors, 64, dc, 1, output, 63, bitmap, 1), 3);
+    REFUSED(name, jpeg_block_fdct_quantize_guarded(block, 64, quant, 64, divisors, 64, dc, 1, output, 65, bitmap, 1), 3);
+    REFUSED(name, jpeg_block_fdct_quantize_guarded(block, 64, quant, 64, divisors, 64, dc, 1, output, 64, bitmap, 0), 3);
+    REFUSED(name, jpeg_block_fdct_quantize_guarded(block, 64, quant, 64, divisors, 64, dc, 1, output, 64, bitmap, 2), 3);
+    quant[63] = 0;
+    REFUSED(name, jpeg_block_fdct_quantize_guarded(block, 64, quant, 64, divisors, 63, dc, 0, output, 63, bitmap, 0), 5);
+    quant[63] = 10;
+    expect(dc[0] == 7 && dc[1] == 7 && bitmap[0] == 7 && bitmap[1] == 7, name, "a refused call wrote");
+    expect(jpeg_block_fdct_quantize_guarded(block, 64, quant, 64, divisors, 64, dc, 1, output, 64, bitmap, 1) == 0, name, "is refused");
+    expect(jpeg_block_fdct_quantize_coefficient(block, 64, 10, 0, canonical, 1) == 0, name, "no canonical DC");
+    expect(dc[0] == canonical[0] && dc[1] == 7, name, "DC");
+    for (u = 0; u < 4; u++) {
+        expect(jpeg_block_fdct_quantize_coefficient(block, 64, 10, 2 * (size_t)u + 1, canonical, 1) == 0, name, "no canonical AC");
+        expect(canonical[0] != 0 && output[places[u]] == canonical[0], name, "an AC coefficient");
+        expected |= (uint64_t)1 << (64 - places[u]);
+        output[places[u]] = 0;
+    }
+    for (i = 0; i < 64; i++) {
+        expect(output[i] == 0, name, "an AC coefficient that is not zero");
+    }
+    expect(bitmap[0] == expected && bitmap[1] == 7, name, "the bitmap");
+    WROTE(name, 64);
+}
+
 static void dequantized(void)
 {
     static const char name[] = "jpeg_block_dequantize";
@@ -235,6 +303,8 @@ int main(void)
     inverse_blocks();
     forward_block();
     one_coefficient();
+    divisors_made();
+    guarded();
     dequantized();
     screened();
     same_blocks();

@@ -79,6 +79,26 @@ pub mod raw {
             out: *mut i16,
             out_len: usize,
         ) -> u32;
+        pub fn jpeg_block_quantization_divisors(
+            quant: *const u8,
+            quant_len: usize,
+            out: *mut f64,
+            out_len: usize,
+        ) -> u32;
+        pub fn jpeg_block_fdct_quantize_guarded(
+            block: *const u8,
+            block_len: usize,
+            quant: *const u8,
+            quant_len: usize,
+            divisors: *const f64,
+            divisors_len: usize,
+            dc: *mut i16,
+            dc_len: usize,
+            ac: *mut i16,
+            ac_len: usize,
+            nonzero_ac: *mut u64,
+            nonzero_ac_len: usize,
+        ) -> u32;
         pub fn jpeg_block_dequantize(
             coefficients: *const i16,
             coefficients_len: usize,
@@ -186,6 +206,70 @@ pub fn fdct_quantize_coefficient(block: &[u8], quantizer: u8, natural: usize) ->
         )
     };
     answer(status, place[0])
+}
+
+/// The divisors that the guarded quantizer takes for a table. Refusals: 2, a
+/// table not of 64; 5, a quantizer 0.
+#[inline]
+pub fn quantization_divisors(quant: &[u8]) -> Result<[f64; 64], u32> {
+    let mut out = [0.0; 64];
+    // SAFETY: both are slices, and the output is this function's own.
+    let status = unsafe {
+        raw::jpeg_block_quantization_divisors(
+            quant.as_ptr(),
+            quant.len(),
+            out.as_mut_ptr(),
+            out.len(),
+        )
+    };
+    answer(status, out)
+}
+
+/// What the guarded quantizer gives: DC, the AC coefficients in zigzag order,
+/// place 0 being 0, and the bitmap whose bit 64 - z is set when place z is not 0.
+#[derive(Clone, Copy, Debug, PartialEq)]
+pub struct QuantizedBlock {
+    pub dc: i16,
+    pub ac_coefficients: [i16; 64],
+    pub nonzero_ac: u64,
+}
+
+/// The guarded quantizer. Refusals: 1, a block not of 64 places; 2, a table not
+/// of 64; 5, a quantizer 0.
+#[inline]
+pub fn fdct_quantize_guarded(
+    block: &[u8],
+    quant: &[u8],
+    divisors: &[f64; 64],
+) -> Result<QuantizedBlock, u32> {
+    let (mut dc, mut ac_coefficients, mut nonzero_ac) = ([0], [0; 64], [0]);
+    // SAFETY: all are slices, and the outputs are this function's own.
+    let status = unsafe {
+        raw::jpeg_block_fdct_quantize_guarded(
+            block.as_ptr(),
+            block.len(),
+            quant.as_ptr(),
+            quant.len(),
+            divisors.as_ptr(),
+            divisors.len(),
+            dc.as_mut_ptr(),
+            dc.len(),
+            ac_coefficients.as_mut_ptr(),
+            ac_coefficients.len(),
+            nonzero_ac.as_mut_ptr(),
+            nonzero_ac.len(),
+        )
+    };
+    let [dc] = dc;
+    let [nonzero_ac] = nonzero_ac;
+    answer(
+        status,
+        QuantizedBlock {
+            dc,
+            ac_coefficients,
+            nonzero_ac,
+        },
+    )
 }
 
 /// Each coefficient times its quantizer, 0 counting as 1. Refusals: 1, a block

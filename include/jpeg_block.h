@@ -1,21 +1,22 @@
 /* JPEG 8x8 block transforms: the functions of libjpeg_block.a, which `rt staticlib jpeg_block` writes (x86-64 Linux).
  *
  * A block is 64 numbers in natural order: index 8v + u for frequencies, 8y + x for samples (u and x across). A quantizer table is 64
- * quantizers in the same order; a quantizer 0 counts as 1.
+ * quantizers in the same order; a quantizer 0 counts as 1, but for the guarded quantizer, which refuses it.
  *
  * Each buffer is a pointer and its length, the number of elements and not of bytes. Each function returns 0, and has then written the
  * whole of its output; or a refusal's number, and has then written nothing:
  *
  *   1  an input block that is not of 64 places
- *   2  a quantizer table that is not of 64
+ *   2  a quantizer table, or divisors, not of 64
  *   3  an output of the wrong length
  *   4  an index above 63
+ *   5  a quantizer 0 anywhere
  *
  * The tests run in the order in which each function lists its numbers, and the first that fails is answered. No function keeps a
  * pointer, allocates, or has a state: calls may run in parallel, also over shared inputs.
  *
  * What the caller guarantees, since no function can test it: each pointer is aligned for its type and valid for its length, for
- * reading, an output also for writing, until the call returns; the output overlaps no other buffer of the call and nobody else
+ * reading, an output also for writing, until the call returns; an output overlaps no other buffer of the call and nobody else
  * touches it meanwhile. Two inputs may overlap. A buffer of length 0 is not looked at: its pointer may be anything, NULL too.
  */
 #ifndef JPEG_BLOCK_H
@@ -33,6 +34,7 @@ extern "C" {
 #define JPEG_BLOCK_REFUSED_TABLE 2
 #define JPEG_BLOCK_REFUSED_OUTPUT 3
 #define JPEG_BLOCK_REFUSED_INDEX 4
+#define JPEG_BLOCK_REFUSED_QUANTIZER 5
 
 /* The inverse transforms (ISLOW) of 64 dequantized coefficients. Refusals 1, 3. */
 
@@ -60,6 +62,17 @@ uint32_t jpeg_block_fdct_quantize(const uint8_t *block, size_t block_len, const 
 
 /* The coefficient at the index `natural` under one quantizer, into out[0]; out_len 1. Refusals 1, 4, 3. */
 uint32_t jpeg_block_fdct_quantize_coefficient(const uint8_t *block, size_t block_len, uint8_t quantizer, size_t natural, int16_t *out, size_t out_len);
+
+/* The guarded quantizer of 64 samples of 8 bits: a transform in binary64 and one product for each coefficient; where that lies less
+ * than 2^-19 from a half the canonical coefficient stands. */
+
+/* The divisors of a table, which each call of the guarded quantizer takes; out_len 64. Refusals 2, 5, 3. */
+uint32_t jpeg_block_quantization_divisors(const uint8_t *quant, size_t quant_len, double *out, size_t out_len);
+
+/* DC into dc[0], dc_len 1; the AC coefficients in zigzag order into ac, ac[0] being 0, ac_len 64; into nonzero_ac[0] the bitmap whose
+ * bit 64 - z is set when ac[z] is not 0, nonzero_ac_len 1. The divisors are used as handed over, even if made from another table.
+ * Refusals 1, 2, 5; then 2 for the divisors; 3 for any of the three outputs. */
+uint32_t jpeg_block_fdct_quantize_guarded(const uint8_t *block, size_t block_len, const uint8_t *quant, size_t quant_len, const double *divisors, size_t divisors_len, int16_t *dc, size_t dc_len, int16_t *ac, size_t ac_len, uint64_t *nonzero_ac, size_t nonzero_ac_len);
 
 /* Blocks of 64 stored coefficients. */
 

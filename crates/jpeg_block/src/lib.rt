@@ -4,5 +4,6 @@
 // Each function hands its buffers on to the entry of the same name and answers that entry's number: 0, or a refusal's (document 01,
 // "Refusing calls"), and then every buffer is as it was. A slice is a pointer and a length to C.
 mod canonical;
+mod guarded;
 mod inverse;
 mod stored;

@@ -1,10 +1,11 @@
 // Blocks of stored coefficients (crate dequantize).
 ghost use mathlib.Core.Path.{_≡_};
 ghost use Rattle.dequantize.specs.Dequantize.{status, after, screenAnswer, sameAnswer};
-ghost use Rattle.jpeg_block.specs.Place.{placeStatus, placeAfter, word};
+ghost use Rattle.place.specs.Place.{placeStatus, placeAfter, word};
 use dequantize::dequantize;
 use dequantize::same;
 use dequantize::screen;
+use place::place_bool;
 
 #[no_mangle]
 pub extern "C" fn jpeg_block_dequantize(coefficients: &[i16], quant: &[u8], out: &mut [i32]) -> u32
@@ -21,14 +22,7 @@ pub extern "C" fn jpeg_block_screen(coefficients: &[i16], quant: &[u8], yes: &mu
     ensures { λ _. ⌜ now (yes .exit) ≡ placeAfter (screenAnswer (now (coefficients .entry)) (now (quant .entry)) .status) (word (screenAnswer (now (coefficients .entry)) (now (quant .entry)) .yes)) (now (yes .entry)) ⌝ }
 {
     let answer = screen(coefficients, quant);
-    if answer.status != 0 {
-        return answer.status;
-    }
-    if yes.len() != 1 {
-        return 3;
-    }
-    yes[0] = answer.yes as u8;
-    0
+    place_bool(answer.status, answer.yes, yes)
 }
 
 #[no_mangle]
@@ -37,12 +31,5 @@ pub extern "C" fn jpeg_block_same(a: &[i16], b: &[i16], yes: &mut [u8]) -> u32
     ensures { λ _. ⌜ now (yes .exit) ≡ placeAfter (sameAnswer (now (a .entry)) (now (b .entry)) .status) (word (sameAnswer (now (a .entry)) (now (b .entry)) .yes)) (now (yes .entry)) ⌝ }
 {
     let answer = same(a, b);
-    if answer.status != 0 {
-        return answer.status;
-    }
-    if yes.len() != 1 {
-        return 3;
-    }
-    yes[0] = answer.yes as u8;
-    0
+    place_bool(answer.status, answer.yes, yes)
 }

@@ -1,0 +1,3 @@
+mod Status
+mod Guarded
+mod Made

@@ -1,0 +1,38 @@
+-- The answers of the guarded quantizer and of its divisors in lent places: the number is returned, the rest is written.
+use mathlib.Core.Bool.{cond}
+use mathlib.Core.List.{List, [], _∷_}
+use Prim.Native.Nat.{ℕ}
+use lib.Dec.{eqb}
+use lib.ListN.{length}
+use lib.IntN.{ℤ}
+use lib.Ieee.{Float}
+use Rattle.lists.specs.Tab.{tab}
+use Rattle.aan.specs.Literals.{decimal}
+use Rattle.aan.specs.Divisors.{divisorsAnswer}
+use Rattle.transform.specs.Guarded.{guardedAnswer}
+
+-- what a buffer holds after the call: the value, or, where the call is refused, what it held before
+unfoldable pub written : {A : Type 0} → ℕ → A → A → A
+written status value held = cond (eqb status 0) value held
+
+-- the entry's number; where the entry does not refuse: 2, divisors not of 64; 3, a place of a wrong length; else 0
+unfoldable pub recordStatus : ℕ → ℕ → ℕ → ℕ → ℕ → ℕ
+recordStatus status reciprocals dc ac bitmap =
+    cond (eqb status 0)
+    (cond (eqb reciprocals 64) (cond (eqb dc 1) (cond (eqb ac 64) (cond (eqb bitmap 1) 0 3) 3) 3) 2)
+    status
+
+-- the divisors by value; 64 zeros for such as are not 64, which the call refuses
+unfoldable pub handed : List Float → List Float
+handed reciprocals = cond (eqb (length reciprocals) 64) reciprocals (tab 64 (λ _. decimal 0 0))
+
+-- `fdct_quantize` of transform.rs: 1, 2, 5; then 2 for the divisors, and 3
+unfoldable pub guardedStatus : List ℕ → List ℕ → List Float → List ℤ → List ℤ → List ℕ → ℕ
+guardedStatus block quant reciprocals dc ac bitmap =
+    recordStatus (guardedAnswer block quant reciprocals .status) (length reciprocals) (length dc) (length ac) (length bitmap)
+
+-- the divisors: 2, 5; then 3
+unfoldable pub madeStatus : List ℕ → List Float → ℕ
+madeStatus quant out =
+    let status = divisorsAnswer quant .status in
+    cond (eqb status 0) (cond (eqb (length out) 64) 0 3) status
