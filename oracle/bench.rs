@@ -14,6 +14,7 @@ mod jpeg_block;
 mod numbers;
 
 use j2k_codec_math::jpeg::{fdct, idct};
+use j2k_encoder::{Divisors, Quantized};
 use numbers::{Random, SEED};
 use std::hint::black_box;
 use std::time::Instant;
@@ -68,6 +69,12 @@ rust! {
     rust_fdct_quantize_coefficient(input: &([u8; 64], u8, usize), output: &mut i16) {
         *output = fdct::fdct_quantize_coefficient(&input.0, input.1, input.2);
     }
+    rust_quantization_divisors(input: &[u8; 64], output: &mut [f64; 64]) {
+        *output = Divisors::new(input).reciprocals();
+    }
+    rust_fdct_quantize_guarded(input: &Guarded, output: &mut Option<Quantized>) {
+        *output = Some(j2k_encoder::fdct_quantize(&input.block, &input.quant, &input.theirs));
+    }
     rust_dequantize(input: &([i16; 64], [u8; 64]), output: &mut [i32; 64]) {
         for n in 0..64 {
             output[n] = i32::from(input.0[n]) * i32::from(input.1[n].max(1));
@@ -81,6 +88,27 @@ rust! {
     }
     rust_same(input: &([i16; 64], [i16; 64]), output: &mut bool) {
         *output = input.0 == input.1;
+    }
+}
+
+/// A block, its table, and the table's divisors for each side.
+struct Guarded {
+    block: [u8; 64],
+    quant: [u8; 64],
+    theirs: Divisors,
+    ours: [f64; 64],
+}
+
+impl Guarded {
+    fn new(block: [u8; 64], quant: [u8; 64]) -> Self {
+        let theirs = Divisors::new(&quant);
+        let ours = theirs.reciprocals();
+        Guarded {
+            block,
+            quant,
+            theirs,
+            ours,
+        }
     }
 }
 
@@ -207,6 +235,13 @@ fn samples() -> Vec<(&'static str, Vec<[u8; 64]>)> {
     ]
 }
 
+/// T.81's table K.1, luminance, in natural order.
+const K1: [u8; 64] = [
+    16, 11, 10, 16, 24, 40, 51, 61, 12, 12, 14, 19, 26, 58, 60, 55, 14, 13, 16, 24, 40, 57, 69, 56,
+    14, 17, 22, 29, 51, 87, 80, 62, 18, 22, 37, 56, 68, 109, 103, 77, 24, 35, 55, 64, 81, 104, 113,
+    92, 49, 64, 78, 87, 103, 121, 120, 101, 72, 92, 95, 98, 112, 100, 103, 99,
+];
+
 fn table(random: &mut Random) -> [u8; 64] {
     core::array::from_fn(|_| 1 + random.below(99) as u8)
 }
@@ -266,6 +301,45 @@ fn main() {
                     .expect("no refusal");
             },
         );
+    }
+    mode.run(
+        "quantization_divisors",
+        "random",
+        &many(table),
+        [0.0; 64],
+        rust_quantization_divisors,
+        |quant, output| {
+            *output = jpeg_block::quantization_divisors(quant).expect("no refusal");
+        },
+    );
+    // Quantizers 1, and T.81's: with those few coefficients are not 0.
+    let tables = [
+        (["random", "smooth", "constant"], [1; 64]),
+        (["random_k1", "smooth_k1", "constant_k1"], K1),
+    ];
+    for (kinds, quant) in tables {
+        for (kind, (_, blocks)) in kinds.into_iter().zip(samples()) {
+            let blocks: Vec<_> = blocks.iter().map(|b| Guarded::new(*b, quant)).collect();
+            mode.run(
+                "fdct_quantize_guarded",
+                kind,
+                &blocks,
+                None,
+                rust_fdct_quantize_guarded,
+                |Guarded {
+                     block, quant, ours, ..
+                 },
+                 output| {
+                    let made =
+                        jpeg_block::fdct_quantize_guarded(block, quant, ours).expect("no refusal");
+                    *output = Some(Quantized {
+                        dc: made.dc,
+                        ac_coefficients: made.ac_coefficients,
+                        nonzero_ac: made.nonzero_ac,
+                    });
+                },
+            );
+        }
     }
     for (kind, blocks) in coefficients::<i16>() {
         let mut random = Random(SEED);

@@ -1,12 +1,11 @@
 //! Compares every function of libjpeg_block.a with the published Rust, and
 //! those that it does not have with stored.rs, on many inputs.
 //!
-//! Arguments: the seconds to spend, shared out evenly among the functions, and
-//! the seed. Each function is first called with lengths around every one that
-//! it takes. Then it is asked for lists of boundary and random inputs, each
-//! list from the next seed, until its time is over. An output lies between
-//! guard places; those, and what a refused call was lent, must stay as they
-//! were.
+//! Arguments: the seconds to spend, and the seed. Each function is first called
+//! with lengths around every one that it takes. Then all are asked for a list of
+//! boundary and random inputs each, then for lists from the next seed, until the
+//! time is over. An output lies between guard places; those, and what a refused
+//! call was lent, must stay as they were.
 //!
 //! A line for each function says how many calls were made and how many were
 //! not as expected. The first of those, made smaller as long as it differs, is
@@ -17,6 +16,8 @@ mod blocks;
 #[allow(dead_code)]
 mod forward;
 #[allow(dead_code)]
+mod guarded;
+#[allow(dead_code)]
 #[path = "../bindings/jpeg_block.rs"]
 mod jpeg_block;
 #[allow(dead_code)]
@@ -25,8 +26,10 @@ mod numbers;
 mod stored;
 
 use blocks::{blocks_from, Clamp, CLAMP_12BIT, CLAMP_8BIT};
-use forward::{single_coefficients_from, whole_blocks_from, Single, Whole};
+use forward::{any_table, single_coefficients_from, whole_blocks_from, Single, Table, Whole};
+use guarded::{handed_from, made_from, Handed};
 use j2k_codec_math::jpeg::{fdct, idct};
+use j2k_encoder::Divisors;
 use jpeg_block::raw;
 use numbers::{ends, least, most, powers, Number, Random, SEED};
 use std::fmt::Debug;
@@ -61,6 +64,16 @@ macro_rules! row_of_number {
     )*};
 }
 row_of_number!(u8 i16 i32);
+
+/// By its bits.
+impl Row for f64 {
+    fn put(&self, to: &mut Vec<i64>) {
+        to.push(self.to_bits() as i64);
+    }
+    fn take(from: &mut impl Iterator<Item = i64>) -> Self {
+        f64::from_bits(from.next().expect("a number") as u64)
+    }
+}
 
 impl<T: Row, const N: usize> Row for [T; N] {
     fn put(&self, to: &mut Vec<i64>) {
@@ -147,6 +160,88 @@ impl Place for i16 {
 impl Place for i32 {
     const FILL: Self = 0x5aa5_a55a;
 }
+impl Place for u64 {
+    const FILL: Self = 0x5aa5_a55a_a55a_5aa5;
+}
+impl Place for f64 {
+    const FILL: Self = 165.5;
+}
+
+/// A buffer of `len` places between guards.
+struct Lent<S>(Vec<S>, usize);
+
+impl<S: Place> Lent<S> {
+    fn new(len: usize) -> Self {
+        Lent(vec![S::FILL; len + 2 * GUARD], len)
+    }
+    fn places(&mut self) -> &mut [S] {
+        &mut self.0[GUARD..GUARD + self.1]
+    }
+    fn held(&self) -> &[S] {
+        &self.0[GUARD..GUARD + self.1]
+    }
+    fn guards(&self) -> bool {
+        let (before, rest) = self.0.split_at(GUARD);
+        before.iter().chain(&rest[self.1..]).all(|x| *x == S::FILL)
+    }
+    fn kept(&self) -> bool {
+        self.0.iter().all(|x| *x == S::FILL)
+    }
+}
+
+/// The three outputs of the guarded quantizer.
+struct Outputs {
+    dc: Lent<i16>,
+    ac: Lent<i16>,
+    nonzero_ac: Lent<u64>,
+}
+
+impl Outputs {
+    fn new((dc, ac, nonzero_ac): (usize, usize, usize)) -> Self {
+        Outputs {
+            dc: Lent::new(dc),
+            ac: Lent::new(ac),
+            nonzero_ac: Lent::new(nonzero_ac),
+        }
+    }
+
+    fn call(&mut self, block: &[u8], quant: &[u8], divisors: &[f64]) -> u32 {
+        let (dc, ac, nonzero_ac) = (self.dc.places(), self.ac.places(), self.nonzero_ac.places());
+        // SAFETY: all are slices, and an exclusive one overlaps no other.
+        unsafe {
+            raw::jpeg_block_fdct_quantize_guarded(
+                block.as_ptr(),
+                block.len(),
+                quant.as_ptr(),
+                quant.len(),
+                divisors.as_ptr(),
+                divisors.len(),
+                dc.as_mut_ptr(),
+                dc.len(),
+                ac.as_mut_ptr(),
+                ac.len(),
+                nonzero_ac.as_mut_ptr(),
+                nonzero_ac.len(),
+            )
+        }
+    }
+    fn kept(&self) -> bool {
+        self.dc.kept() && self.ac.kept() && self.nonzero_ac.kept()
+    }
+    fn guards(&self) -> bool {
+        self.dc.guards() && self.ac.guards() && self.nonzero_ac.guards()
+    }
+}
+
+/// What the guarded quantizer left.
+#[derive(Debug, PartialEq)]
+struct Record {
+    status: u32,
+    dc: i16,
+    ac: [i16; 64],
+    nonzero_ac: u64,
+    guards: bool,
+}
 
 /// Calls with an output of N places between guards. A 64-place output needs
 /// 96 places in all.
@@ -204,10 +299,16 @@ fn coefficient(block: &[u8], quantizer: u8, natural: usize, out: &mut [i16]) -> 
     }
 }
 
+/// A function, and how a list of inputs from a seed is tried on it.
+struct Function {
+    tally: Tally,
+    try_list: Box<dyn Fn(u64, &mut Tally)>,
+}
+
+/// The functions so far, and the seed.
 struct Compare {
-    share: Duration,
+    functions: Vec<Function>,
     seed: u64,
-    differences: usize,
 }
 
 struct Tally {
@@ -259,17 +360,14 @@ impl Tally {
 }
 
 impl Compare {
-    /// Lists of inputs until this function's share of the time is over.
-    fn inputs<I: Row, A: PartialEq + Debug>(
+    fn inputs<I: Row + 'static, A: PartialEq + Debug + 'static>(
         &mut self,
-        mut tally: Tally,
-        list: impl Fn(u64) -> Vec<I>,
-        ours: impl Fn(&I) -> A,
-        expected: impl Fn(&I) -> A,
+        tally: Tally,
+        list: impl Fn(u64) -> Vec<I> + 'static,
+        ours: impl Fn(&I) -> A + 'static,
+        expected: impl Fn(&I) -> A + 'static,
     ) {
-        let end = Instant::now() + self.share;
-        let mut seed = self.seed;
-        loop {
+        let try_list = Box::new(move |seed, tally: &mut Tally| {
             for input in list(seed) {
                 tally.cases += 1;
                 if ours(&input) != expected(&input) {
@@ -282,24 +380,16 @@ impl Compare {
                     tally.differences += 1;
                 }
             }
-            seed = seed.wrapping_add(1);
-            if Instant::now() >= end {
-                break;
-            }
-        }
-        println!(
-            "{} {} cases {} differences",
-            tally.name, tally.cases, tally.differences
-        );
-        self.differences += tally.differences;
+        });
+        self.functions.push(Function { tally, try_list });
     }
 
-    fn inverse<T: Number + Row, S: Place + Default, const N: usize>(
+    fn inverse<T: Number + Row + 'static, S: Place + Default + 'static, const N: usize>(
         &mut self,
         name: &'static str,
-        clamp: &Clamp,
+        clamp: &'static Clamp,
         f: unsafe extern "C" fn(*const T, usize, *mut S, usize) -> u32,
-        rust: impl Fn(&[T; 64], &mut [S; N]),
+        rust: impl Fn(&[T; 64], &mut [S; N]) + 'static,
     ) {
         let mut tally = Tally::new(name);
         let mut random = Random(self.seed);
@@ -320,9 +410,9 @@ impl Compare {
         }
         self.inputs(
             tally,
-            |seed| blocks_from::<T>(seed, clamp, LIST),
-            |input| guarded(|to| call1(f, input, to)),
-            |input| {
+            move |seed| blocks_from::<T>(seed, clamp, LIST),
+            move |input| guarded(|to| call1(f, input, to)),
+            move |input| {
                 let mut output = [S::default(); N];
                 rust(input, &mut output);
                 written(output)
@@ -468,6 +558,149 @@ impl Compare {
         );
     }
 
+    fn divisors(&mut self) {
+        let mut tally = Tally::new("quantization_divisors");
+        for a in LENGTHS {
+            for out in LENGTHS {
+                for zero in [false, true] {
+                    let mut quant = vec![3; a];
+                    if zero {
+                        quant.last_mut().into_iter().for_each(|q| *q = 0);
+                    }
+                    let number = match (a, zero, out) {
+                        (64, true, _) => 5,
+                        (64, false, 64) => 0,
+                        (64, false, _) => 3,
+                        _ => 2,
+                    };
+                    tally.length(number, out, (a, out, zero), |to: &mut [f64]| {
+                        call1(raw::jpeg_block_quantization_divisors, &quant, to)
+                    });
+                }
+            }
+        }
+        self.inputs(
+            tally,
+            |seed| {
+                let mut random = Random(seed);
+                (0..LIST).map(|_| any_table(&mut random)).collect()
+            },
+            |quant: &Table| {
+                let left: Left<f64, 64> =
+                    guarded(|to| call1(raw::jpeg_block_quantization_divisors, quant, to));
+                (left.status, left.output.map(f64::to_bits), left.guards)
+            },
+            |quant| {
+                if quant.contains(&0) {
+                    return (5, [f64::FILL.to_bits(); 64], true);
+                }
+                let made = Divisors::new(quant).reciprocals();
+                (0, made.map(f64::to_bits), true)
+            },
+        );
+    }
+
+    /// The lengths of the guarded quantizer: those of the inputs with right
+    /// outputs and with wrong ones, and those of the outputs.
+    fn guarded_lengths(tally: &mut Tally, quantizer: u8) {
+        let mut inputs = Vec::new();
+        for a in LENGTHS {
+            for b in LENGTHS {
+                for c in LENGTHS {
+                    inputs.push(((a, b, c), (1, 64, 1)));
+                    inputs.push(((a, b, c), (0, 63, 2)));
+                    inputs.push(((64, 64, 64), (a, b, c)));
+                }
+            }
+        }
+        for ((a, b, c), (dc, ac, nonzero_ac)) in inputs {
+            let number = if a != 64 {
+                1
+            } else if b != 64 {
+                2
+            } else if quantizer == 0 {
+                5
+            } else if c != 64 {
+                2
+            } else if (dc, ac, nonzero_ac) != (1, 64, 1) {
+                3
+            } else {
+                0
+            };
+            let block: Vec<u8> = (0..a).map(|n| (37 * n) as u8).collect();
+            let (quant, divisors) = (vec![quantizer; b], vec![0.125; c]);
+            let mut outputs = Outputs::new((dc, ac, nonzero_ac));
+            let status = outputs.call(&block, &quant, &divisors);
+            let kept = if number == 0 {
+                outputs.guards()
+            } else {
+                outputs.kept()
+            };
+            tally.cases += 1;
+            if status != number || !kept {
+                if tally.differences == 0 {
+                    println!(
+                        "{}: lengths {:?}, quantizer {quantizer}: {status} for {number}, buffers {}",
+                        tally.name,
+                        ((a, b, c), (dc, ac, nonzero_ac)),
+                        if kept { "kept" } else { "overwritten" }
+                    );
+                }
+                tally.differences += 1;
+            }
+        }
+    }
+
+    fn guarded(&mut self) {
+        let mut tally = Tally::new("fdct_quantize_guarded");
+        Self::guarded_lengths(&mut tally, 3);
+        Self::guarded_lengths(&mut tally, 0);
+        self.inputs(
+            tally,
+            |seed| {
+                let mut all: Vec<Handed> = made_from(seed, 1, LIST)
+                    .into_iter()
+                    .map(|(block, (quant, other))| {
+                        (block, (quant, Divisors::new(&other).reciprocals()))
+                    })
+                    .collect();
+                all.extend(handed_from(seed, LIST));
+                all
+            },
+            |(block, (quant, divisors)): &Handed| {
+                let mut outputs = Outputs::new((1, 64, 1));
+                let status = outputs.call(block, quant, divisors);
+                Record {
+                    status,
+                    dc: outputs.dc.held()[0],
+                    ac: outputs.ac.held().try_into().expect("64 places"),
+                    nonzero_ac: outputs.nonzero_ac.held()[0],
+                    guards: outputs.guards(),
+                }
+            },
+            |(block, (quant, divisors))| {
+                // No list has a quantizer 0, but smallest() may try one.
+                if quant.contains(&0) {
+                    return Record {
+                        status: 5,
+                        dc: i16::FILL,
+                        ac: [i16::FILL; 64],
+                        nonzero_ac: u64::FILL,
+                        guards: true,
+                    };
+                }
+                let made = j2k_encoder::fdct_quantize(block, quant, &Divisors::of(*divisors));
+                Record {
+                    status: 0,
+                    dc: made.dc,
+                    ac: made.ac_coefficients,
+                    nonzero_ac: made.nonzero_ac,
+                    guards: true,
+                }
+            },
+        );
+    }
+
     /// Not in the published Rust: stored.rs computes these in 64-bit integers.
     fn stored(&mut self) {
         let tally = Self::lengths2("dequantize", (-3, 5), (2, 64), raw::jpeg_block_dequantize);
@@ -505,18 +738,35 @@ fn argument(at: usize, default: u64) -> u64 {
 }
 
 fn main() {
-    let seconds = argument(1, 60);
+    let end = Instant::now() + Duration::from_secs(argument(1, 60));
     let seed = argument(2, SEED);
     println!("seed {seed}");
     let mut compare = Compare {
-        share: Duration::from_millis(seconds * 1_000 / 14),
+        functions: Vec::new(),
         seed,
-        differences: 0,
     };
     compare.inverses();
     compare.forwards();
+    compare.divisors();
+    compare.guarded();
     compare.stored();
-    if compare.differences != 0 {
+    for list in 0.. {
+        for function in &mut compare.functions {
+            (function.try_list)(seed.wrapping_add(list), &mut function.tally);
+        }
+        if Instant::now() >= end {
+            break;
+        }
+    }
+    let mut differences = 0;
+    for Function { tally, .. } in &compare.functions {
+        println!(
+            "{} {} cases {} differences",
+            tally.name, tally.cases, tally.differences
+        );
+        differences += tally.differences;
+    }
+    if differences != 0 {
         std::process::exit(1);
     }
 }

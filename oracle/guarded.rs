@@ -70,12 +70,17 @@ fn nearly_constant(random: &mut Random) -> Vec<Made> {
     all
 }
 
-/// `count` cases: the ones above, then random blocks, every fourth with the
-/// divisors of another table.
+/// The cases of the recorded answers.
 pub fn made(count: usize) -> Vec<Made> {
-    let mut random = Random(SEED);
+    made_from(SEED, 700, count)
+}
+
+/// `count` cases: the ones above, `near` on each side of the guard's end, then
+/// random blocks, every fourth with the divisors of another table.
+pub fn made_from(seed: u64, near: usize, count: usize) -> Vec<Made> {
+    let mut random = Random(seed);
     let mut all = nearly_constant(&mut random);
-    all.extend(near_a_half(700, &mut random));
+    all.extend(near_a_half(near, &mut random));
     assert!(all.len() + 1_000 < count);
     while all.len() < count {
         let block = any_block(&mut random);
@@ -129,9 +134,14 @@ fn at_the_guard(value: f64, random: &mut Random) -> f64 {
     }
 }
 
-/// `count` cases of divisors that no table makes.
+/// The cases of the recorded answers.
 pub fn handed(count: usize) -> Vec<Handed> {
-    let mut random = Random(SEED);
+    handed_from(SEED, count)
+}
+
+/// `count` cases of divisors that no table makes.
+pub fn handed_from(seed: u64, count: usize) -> Vec<Handed> {
+    let mut random = Random(seed);
     let mut all: Vec<Handed> = Vec::new();
     for special in SPECIAL {
         for _ in 0..4 {
