@@ -13,9 +13,10 @@ use lib.IntN.{ℤ, pos}
 use Rattle.fdct.specs.Fdct.{coefficients}
 use Rattle.fdct.specs.Fdct.{after as fdct-after}
 use Rattle.coefficient_text.specs.declared.Printed.{Printed}
-use Rattle.coefficient_text.specs.Stores.{Wrote}
-use Rattle.coefficient_text.specs.Text.{accepted, numbers, refusal, text, printed, after}
-use Rattle.coefficient_text.proofs.Stores.{wrote-all}
+use Rattle.decimal_lines.specs.Stores.{Wrote}
+use Rattle.decimal_lines.specs.Lines.{numbers}
+use Rattle.coefficient_text.specs.Text.{accepted, refusal, text, printed, after}
+use Rattle.decimal_lines.proofs.Stores.{wrote-all}
 
 -- what the samples, the part of the input from place 11 on, give
 pub written : (input : List ℕ) → length input ≡ 75

@@ -11,7 +11,8 @@ use Rattle.forward.specs.Sum.{sumTo}
 use Rattle.forward.specs.Forward.{centred, scaledSum}
 use Rattle.quantize.specs.Quantize.{divisorOf, rounded, withSign, coefficient}
 use Rattle.fdct.specs.Fdct.{coefficients}
-use Rattle.coefficient_text.specs.Text.{header, same, accepted, digits, decimal, separator, numbers, text}
+use Rattle.decimal_lines.specs.Lines.{digits, decimal, separator, numbers}
+use Rattle.coefficient_text.specs.Text.{header, same, accepted, text}
 
 -- " 0 0 0 0 0 0 0\n"
 abbrev zeros : List ℕ

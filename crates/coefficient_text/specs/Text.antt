@@ -1,11 +1,11 @@
 -- Document 01, "Added by design": what is printed for what standard input holds.
 use mathlib.Core.Bool.{Bool, true, false, cond, _&&_}
 use mathlib.Core.List.{List, [], _∷_, _++_}
-use Prim.Native.Nat.{ℕ, zero, suc, _+_, _/_, _%_}
-use lib.Dec.{eqb, ltb}
-use lib.ListN.{length, take, drop, getD, replicate}
-use lib.IntN.{ℤ, pos, negsuc}
+use Prim.Native.Nat.{ℕ}
+use lib.Dec.{eqb}
+use lib.ListN.{length, take, drop, replicate}
 use Rattle.fdct.specs.Fdct.{coefficients}
+use Rattle.decimal_lines.specs.Lines.{numbers}
 use Rattle.coefficient_text.specs.declared.Printed.{Printed}
 
 -- "P5\n8 8\n255\n" in ASCII
@@ -22,25 +22,6 @@ same (x ∷ xs) (y ∷ ys) = eqb x y && same xs ys
 -- "exactly the 11 bytes `P5\n8 8\n255\n` and 64 samples"
 unfoldable pub accepted : List ℕ → Bool
 accepted input = eqb (length input) 75 && same (take 11 input) header
-
--- the decimal digits of n in ASCII, at most k of them: those of n / 10 where n has more than one, then the last
-unfoldable pub digits : ℕ → ℕ → List ℕ
-digits zero n = []
-digits (suc k) n = cond (ltb n 10) [] (digits k (n / 10)) ++ ((48 + n % 10) ∷ [])
-
--- a 16-bit number in decimal: "-" (45) where it is negative, then at most five digits
-unfoldable pub decimal : ℤ → List ℕ
-decimal (pos n) = digits 5 n
-decimal (negsuc n) = 45 ∷ digits 5 (suc n)
-
--- "eight numbers by rising u, one space between", and a newline (10) after u = 7; the number n is that of 8v + u
-unfoldable pub separator : ℕ → ℕ
-separator n = cond (eqb (n % 8) 7) 10 32
-
--- the first n numbers of a list
-unfoldable pub numbers : List ℤ → ℕ → List ℕ
-numbers cs zero = []
-numbers cs (suc n) = numbers cs n ++ (decimal (getD cs n (pos 0)) ++ (separator n ∷ []))
 
 -- "refused 7\n" in ASCII
 unfoldable pub refusal : List ℕ

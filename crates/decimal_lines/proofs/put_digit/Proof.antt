@@ -1,8 +1,8 @@
--- `coefficient_text::put_digit` meets its contract. Assumes nothing.
+-- `decimal_lines::put_digit` meets its contract. Assumes nothing.
 use borrow.Author.Needs.{needs}
-use Rattle.coefficient_text.proofs.Stores.{shown-one, shown-none}
-use Rattle.coefficient_text.proofs.put_digit.Statement.{statement}
-use Rattle.coefficient_text.proofs.put_digit.Tie as tie
+use Rattle.decimal_lines.proofs.Stores.{shown-one, shown-none}
+use Rattle.decimal_lines.proofs.put_digit.Statement.{statement}
+use Rattle.decimal_lines.proofs.put_digit.Tie as tie
 
 returns : tie.Need-returns
 returns c = shown-one _ _ _ (c .if1 .taken)

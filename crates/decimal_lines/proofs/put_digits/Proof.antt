@@ -1,10 +1,10 @@
--- `coefficient_text::put_digits` meets its contract. Assumes nothing.
+-- `decimal_lines::put_digits` meets its contract. Assumes nothing.
 use native.Mathlib.Omega.{arith}
 use borrow.Author.Needs.{needs}
-use Rattle.coefficient_text.proofs.Stores.{wrote-then, wrote-as}
-use Rattle.coefficient_text.proofs.Decimal.{front, digits-front}
-use Rattle.coefficient_text.proofs.put_digits.Statement.{statement}
-use Rattle.coefficient_text.proofs.put_digits.Tie as tie
+use Rattle.decimal_lines.proofs.Stores.{wrote-then, wrote-as}
+use Rattle.decimal_lines.proofs.Decimal.{front, digits-front}
+use Rattle.decimal_lines.proofs.put_digits.Statement.{statement}
+use Rattle.decimal_lines.proofs.put_digits.Tie as tie
 
 put-digit-requires-2 : tie.Need-put-digit-requires-2
 put-digit-requires-2 c κs = omega arith

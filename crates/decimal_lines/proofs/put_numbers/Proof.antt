@@ -1,16 +1,16 @@
--- `coefficient_text::put_numbers` meets its contract. Assumes nothing.
+-- `decimal_lines::put_numbers` meets its contract. Assumes nothing.
 use Prim.Native.Nat.{_≤_, _*_, _-_}
 use mathlib.Core.Path.{_≡_, ap}
 use native.Mathlib.Omega.{arith}
 use borrow.Author.Needs.{needs}
 use mir.Syntax.{w16}
 use mir.ValLaws.{toZ-ofZ}
-use Rattle.coefficient_text.specs.Stores.{Wrote}
-use Rattle.coefficient_text.specs.Text.{numbers}
-use Rattle.coefficient_text.proofs.Stores.{wrote-none, wrote-then, wrote-one, wrote-as, wrote-within}
-use Rattle.coefficient_text.proofs.Decimal.{numbers-more}
-use Rattle.coefficient_text.proofs.put_numbers.Statement.{statement}
-use Rattle.coefficient_text.proofs.put_numbers.Tie as tie
+use Rattle.decimal_lines.specs.Stores.{Wrote}
+use Rattle.decimal_lines.specs.Lines.{numbers}
+use Rattle.decimal_lines.proofs.Stores.{wrote-none, wrote-then, wrote-one, wrote-as, wrote-within}
+use Rattle.decimal_lines.proofs.Decimal.{numbers-more}
+use Rattle.decimal_lines.proofs.put_numbers.Statement.{statement}
+use Rattle.decimal_lines.proofs.put_numbers.Tie as tie
 
 abbrev Inv-loop : tie.InvT-loop
 Inv-loop cs out₀ at₀ n₀ out at n = (n ≤ 64) × Wrote (7 * n) out₀ 0 (numbers cs n) out at

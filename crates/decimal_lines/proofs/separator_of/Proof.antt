@@ -1,8 +1,8 @@
--- `coefficient_text::separator_of` meets its contract. Assumes nothing.
+-- `decimal_lines::separator_of` meets its contract. Assumes nothing.
 use borrow.Author.Tests.{eq-eqb, ne-eqb}
-use Rattle.coefficient_text.specs.Text.{separator}
-use Rattle.coefficient_text.proofs.separator_of.Statement.{statement}
-use Rattle.coefficient_text.proofs.separator_of.Tie as tie
+use Rattle.decimal_lines.specs.Lines.{separator}
+use Rattle.decimal_lines.proofs.separator_of.Statement.{statement}
+use Rattle.decimal_lines.proofs.separator_of.Tie as tie
 
 returns : tie.Need-returns
 unfolding separator

@@ -9,7 +9,7 @@ use native.Mathlib.Omega.{arith}
 use borrow.Author.Tests.{lt-ltb, le-ltb}
 use lib.Dec.{ltb}
 use lib.ListN.{getD}
-use Rattle.coefficient_text.specs.Text.{digits}
+use Rattle.decimal_lines.specs.Lines.{digits}
 
 -- the number that ASCII digits stand for, those read so far being n
 unfoldable pub readFrom : ℕ → List ℕ → ℕ

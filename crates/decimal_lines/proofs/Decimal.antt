@@ -14,7 +14,7 @@ use lib.ListN.{getD}
 use lib.Signed.{ltZ}
 use mir.Syntax.{w16}
 use mir.Val.{SFits}
-use Rattle.coefficient_text.specs.Text.{digits, decimal, separator, numbers}
+use Rattle.decimal_lines.specs.Lines.{digits, decimal, separator, numbers}
 
 -- a byte where it is shown
 abbrev pub shown : Bool → ℕ → List ℕ

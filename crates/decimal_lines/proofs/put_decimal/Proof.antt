@@ -1,4 +1,4 @@
--- `coefficient_text::put_decimal` meets its contract. Assumes nothing.
+-- `decimal_lines::put_decimal` meets its contract. Assumes nothing.
 use Prim.Native.Nat.{ℕ, _<_}
 use mathlib.Core.Path.{_≡_, ap, _∙_}
 use mathlib.Core.List.{_∷_}
@@ -10,11 +10,11 @@ use mir.Facts.{sfits-widen, sfits-toZ, fits-ofZ}
 use mir.Syntax.{w16, w64}
 use mir.Val.{toZ, ofZ}
 use mir.ValLaws.{toZ-ofZ}
-use Rattle.coefficient_text.specs.Text.{digits}
-use Rattle.coefficient_text.proofs.Stores.{wrote-then, wrote-one, wrote-as, wrote-within}
-use Rattle.coefficient_text.proofs.Decimal.{size-small, decimal-negative, decimal-other}
-use Rattle.coefficient_text.proofs.put_decimal.Statement.{statement}
-use Rattle.coefficient_text.proofs.put_decimal.Tie as tie
+use Rattle.decimal_lines.specs.Lines.{digits}
+use Rattle.decimal_lines.proofs.Stores.{wrote-then, wrote-one, wrote-as, wrote-within}
+use Rattle.decimal_lines.proofs.Decimal.{size-small, decimal-negative, decimal-other}
+use Rattle.decimal_lines.proofs.put_decimal.Statement.{statement}
+use Rattle.decimal_lines.proofs.put_decimal.Tie as tie
 
 cast-unsigned-abs : tie.Need-cast-unsigned-abs
 cast-unsigned-abs c = sfits-widen tt (sfits-toZ (fits-ofZ (c .before .fits .z)))
