@@ -1,11 +1,12 @@
--- Tests of two integers: the same, and in order.
+-- The test that two integers are the same.
 -- Assumes nothing.
 use mathlib.Core.Path.{_≡_, refl, sym, ap, _∙_}
 use mathlib.Core.Bool.{Bool, true, false}
 use Prim.Native.Nat.{ℕ}
-use borrow.Author.Tests.{eqb-true, ne-eqb, eq-eqb, ltb-true, ltb-false, le-leb, lt-leb}
+use borrow.Author.Tests.{eqb-true, ne-eqb, eq-eqb}
+use native.Mathlib.Decide.{ℕ-discrete}
+use lib.Dec.{eqb}
 use lib.IntN.{ℤ, pos, negsuc}
-use lib.Signed.{ltZ, leZ}
 use mir.Syntax.{Width}
 use mir.Val.{SFits, toZ, ofZ}
 use mir.ValLaws.{toZ-ofZ}
@@ -35,22 +36,15 @@ eqZ-other x y h = go (eqZ x y) refl
 
 -- of numbers that fit a width, by their bits
 module _ (w : Width) {x y : ℤ} (fx : SFits w x) (fy : SFits w y) where
-  pub bits-same : ofZ w x ≡ ofZ w y → eqZ x y ≡ true
+  bits-same : ofZ w x ≡ ofZ w y → eqZ x y ≡ true
   bits-same e = eqZ-same x y (sym (toZ-ofZ w x fx) ∙ ap (toZ w) e ∙ toZ-ofZ w y fy)
 
-  pub bits-other : (ofZ w x ≡ ofZ w y → ⊥) → eqZ x y ≡ false
+  bits-other : (ofZ w x ≡ ofZ w y → ⊥) → eqZ x y ≡ false
   bits-other h = eqZ-other x y (λ e. h (ap (ofZ w) e))
 
--- ---- order
-
-pub below-least : (a b : ℤ) → ltZ a b ≡ true → leZ b a ≡ false
-below-least (pos a) (pos b) e = lt-leb b a (ltb-true a b e)
-below-least (pos a) (negsuc b) e = cc
-below-least (negsuc a) (pos b) e = refl
-below-least (negsuc a) (negsuc b) e = lt-leb a b (ltb-true b a e)
-
-pub not-below : (a b : ℤ) → ltZ a b ≡ false → leZ b a ≡ true
-not-below (pos a) (pos b) e = le-leb b a (ltb-false a b e)
-not-below (pos a) (negsuc b) e = refl
-not-below (negsuc a) (pos b) e = cc
-not-below (negsuc a) (negsuc b) e = le-leb a b (ltb-false b a e)
+  pub bits-eqb : eqb (ofZ w x) (ofZ w y) ≡ eqZ x y
+  bits-eqb = go (ℕ-discrete (ofZ w x) (ofZ w y))
+    where
+      go : Dec (ofZ w x ≡ ofZ w y) → eqb (ofZ w x) (ofZ w y) ≡ eqZ x y
+      go (yes e) = eq-eqb (ofZ w x) (ofZ w y) e ∙ sym (bits-same e)
+      go (no h) = ne-eqb (ofZ w x) (ofZ w y) h ∙ sym (bits-other h)

@@ -1,8 +1,9 @@
 -- A test at every number below a bound, and the fact at each.
 -- Assumes nothing.
-use mathlib.Core.Path.{_≡_, refl, subst, _∙_}
+use mathlib.Core.Path.{_≡_, refl, sym, ap, subst, _∙_}
 use mathlib.Core.Bool.{Bool, true, false, _&&_}
-use Prim.Native.Nat.{ℕ, zero, suc, _<_}
+use Prim.Native.Nat.{ℕ, zero, suc, _+_, _<_}
+use native.Mathlib.Numerals.{add-one}
 use native.Mathlib.Decide.{decLt}
 use native.Mathlib.Omega.{arith}
 use lib.Dec.{T}
@@ -27,16 +28,17 @@ at-below (suc n) f h = both (f n) (below n f) (h n (omega arith)) (at-below n f 
     both : (s t : Bool) → T s → T t → T (s && t)
     both true t p q = q
 
--- one place where it fails
-pub below-fails : (n : ℕ) (f : ℕ → Bool) (k : ℕ) → k < n → f k ≡ false → below n f ≡ false
-below-fails n f k h e = no (below n f) (λ t. subst T e (below-at n f t k h))
-  where
-    no : (t : Bool) → (T t → T false) → t ≡ false
-    no true p = absurd (p tt)
-    no false p = refl
-
 -- every place holds
 pub below-holds : (n : ℕ) (f : ℕ → Bool) → ((k : ℕ) → k < n → f k ≡ true) → below n f ≡ true
 unfolding below
 below-holds zero f h = refl
 below-holds (suc n) f h = (λ i. h n (omega arith) i && below n f) ∙ below-holds n f (λ k b. h k (omega arith))
+
+-- a loop's test at one place more
+pub below-next : (f : ℕ → Bool) (n : ℕ) {s t : Bool} → t ≡ f n → s ≡ below n f → (t && s) ≡ below (n + 1) f
+unfolding below
+below-next f n d e = (λ i. d i && e i) ∙ ap (λ (m : ℕ). below m f) (sym (add-one n))
+
+-- and where the loop ends
+pub below-all : (f : ℕ → Bool) (n m : ℕ) {s : Bool} → s ≡ below n f → n ≡ m → s ≡ below m f
+below-all f n m e h = e ∙ ap (λ (k : ℕ). below k f) h
