@@ -40,7 +40,7 @@ fn same_coefficients(a: &[u8; 64], b: &[u8; 64], quant: &[u8; 64]) -> bool {
     if fdct::fdct_quantize(b, quant, &mut coefficients_b) != 0 {
         return false;
     }
-    let got = dequantize::same(&coefficients_a, &coefficients_b);
+    let got = stored_blocks::same(&coefficients_a, &coefficients_b);
     got.status == 0 && got.yes
 }
 

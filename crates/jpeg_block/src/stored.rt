@@ -1,11 +1,12 @@
-// Blocks of stored coefficients (crate dequantize).
+// Blocks of stored coefficients (crates dequantize and stored_blocks).
 ghost use mathlib.Core.Path.{_≡_};
-ghost use Rattle.dequantize.specs.Dequantize.{status, after, screenAnswer, sameAnswer};
+ghost use Rattle.dequantize.specs.Dequantize.{status, after};
+ghost use Rattle.stored_blocks.specs.Stored.{screenAnswer, sameAnswer};
 ghost use Rattle.place.specs.Place.{placeStatus, placeAfter, word};
 use dequantize::dequantize;
-use dequantize::same;
-use dequantize::screen;
 use place::place_bool;
+use stored_blocks::same;
+use stored_blocks::screen;
 
 #[no_mangle]
 pub extern "C" fn jpeg_block_dequantize(coefficients: &[i16], quant: &[u8], out: &mut [i32]) -> u32

@@ -8,7 +8,7 @@ use crate::print::decimal;
 use crate::print::decimal_usize;
 use crate::print::number;
 use crate::print::text;
-use dequantize::Answer;
+use stored_blocks::Answer;
 
 // Every place of an output holds this before the call. No product below is it.
 const FILL: i32 = 165;
@@ -99,7 +99,7 @@ fn screen(n: usize, value: i16, quantizer: u8, places: usize, table: usize)
 {
     let input = only(n, value);
     let quant = [quantizer; ROOM];
-    let got = dequantize::screen(&input[0..places], &quant[0..table]);
+    let got = stored_blocks::screen(&input[0..places], &quant[0..table]);
     coefficients(b"screen ", places, n, value);
     equal(b", ", table, b" quantizers ", quantizer);
     answer(got);
@@ -112,7 +112,7 @@ fn same(n: usize, a: i16, b: i16, places_a: usize, places_b: usize)
 {
     let first = only(n, a);
     let second = only(n, b);
-    let got = dequantize::same(&first[0..places_a], &second[0..places_b]);
+    let got = stored_blocks::same(&first[0..places_a], &second[0..places_b]);
     coefficients(b"same ", places_a, n, a);
     coefficients(b"; ", places_b, n, b);
     answer(got);

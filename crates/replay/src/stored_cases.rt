@@ -6,7 +6,7 @@ use crate::compare::any_differs_i32;
 use crate::compare::differs_u8;
 use crate::decode::ROOM;
 use crate::decode::block_i16;
-use dequantize::Answer;
+use stored_blocks::Answer;
 
 // A case has 1 for yes.
 fn one_if(yes: bool) -> u8 {
@@ -22,7 +22,7 @@ fn products(case: &[u8], coefficients: &[i16], output: &mut [i32]) -> u32
 fn screened(case: &[u8], coefficients: &[i16]) -> Answer
     requires { ⌜ length (now case) ≡ 1024 ⌝ }
 {
-    dequantize::screen(coefficients, &case[128..192])
+    stored_blocks::screen(coefficients, &case[128..192])
 }
 
 pub fn dequantize(case: &[u8; ROOM]) -> bool {
@@ -41,6 +41,6 @@ pub fn screen(case: &[u8; ROOM]) -> bool {
 pub fn same(case: &[u8; ROOM]) -> bool {
     let a = block_i16(case, 0);
     let b = block_i16(case, 128);
-    let got = dequantize::same(&a, &b);
+    let got = stored_blocks::same(&a, &b);
     got.status != 0 || differs_u8(case, 256, one_if(got.yes))
 }

@@ -12,10 +12,11 @@ use lib.IntN.{ℤ, pos}
 use Rattle.lists.proofs.Tab.{length-tab}
 use Rattle.fdct.specs.Fdct.{coefficients}
 use Rattle.fdct.specs.Fdct as fdct
-use Rattle.dequantize.specs.Dequantize.{dequantized, sameBlocks, sameAnswer}
+use Rattle.dequantize.specs.Dequantize.{dequantized}
+use Rattle.stored_blocks.specs.Stored.{sameBlocks, sameAnswer}
 use Rattle.dequantize.specs.Dequantize as dequantize
-use Rattle.dequantize.specs.declared.Answer.{Answer}
-use Rattle.dequantize.proofs.Entry.{same-yes}
+use Rattle.stored_blocks.specs.declared.Answer.{Answer}
+use Rattle.stored_blocks.proofs.Entries.{same-yes}
 use Rattle.passes.specs.Passes.{eight}
 use Rattle.block.specs.Block.{block}
 use Rattle.block.specs.Block as inverse

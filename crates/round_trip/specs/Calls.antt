@@ -6,8 +6,8 @@ use lib.Dec.{eqb}
 use lib.ListN.{length}
 use lib.IntN.{ℤ}
 use Rattle.fdct.specs.Fdct.{coefficients}
-use Rattle.dequantize.specs.Dequantize.{sameBlocks}
-use Rattle.dequantize.specs.declared.Answer.{Answer}
+use Rattle.stored_blocks.specs.Stored.{sameBlocks}
+use Rattle.stored_blocks.specs.declared.Answer.{Answer}
 
 -- 1, a block not of 64 places; 2, a table not of 64; 3, an output not of 64
 unfoldable pub comparedStatus : List ℕ → List ℕ → List ℕ → List ℤ → List ℤ → ℕ

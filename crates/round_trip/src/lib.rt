@@ -11,12 +11,12 @@ ghost use Rattle.lists.specs.Tab.{tab};
 ghost use Rattle.fdct.specs.Fdct.{coefficients};
 ghost use Rattle.bounds.specs.Demand3.{products, decoded, Alike, Near};
 ghost use Rattle.round_trip.specs.Calls.{comparedStatus, comparedAnswer, roundTripStatus, written};
-use dequantize::Answer;
 use dequantize::dequantize;
-use dequantize::same;
 use fdct::fdct_quantize;
 use idct::islow_block;
 use idct::islow_block_i32;
+use stored_blocks::Answer;
+use stored_blocks::same;
 
 fn narrow(product: i32) -> i16
     requires { ⌜ SFits w16 product ⌝ }

@@ -1,4 +1,4 @@
--- `dequantize::products_in_range` meets its contract. Assumes nothing.
+-- `stored_blocks::products_in_range` meets its contract. Assumes nothing.
 use Prim.Native.Nat.{_≤_, _-_}
 use mathlib.Core.Path.{_≡_, refl, _∙_}
 use mathlib.Core.Bool.{_&&_}
@@ -12,9 +12,10 @@ use mir.ValLaws.{toZ-ofZ}
 use Rattle.lists.specs.Below.{below}
 use Rattle.lists.proofs.Below.{below-next, below-all}
 use Rattle.quantize.specs.Quantize.{divisorOf}
-use Rattle.dequantize.specs.Dequantize.{product, inRange, screened}
-use Rattle.dequantize.proofs.products_in_range.Statement.{statement}
-use Rattle.dequantize.proofs.products_in_range.Tie as tie
+use Rattle.dequantize.specs.Dequantize.{product}
+use Rattle.stored_blocks.specs.Stored.{inRange, screened}
+use Rattle.stored_blocks.proofs.products_in_range.Statement.{statement}
+use Rattle.stored_blocks.proofs.products_in_range.Tie as tie
 
 abbrev Inv-loop : tie.InvT-loop
 Inv-loop coefficients quant all₀ n₀ all n = (n ≤ 64) × (all ≡ below n (inRange coefficients quant))

@@ -1,8 +1,8 @@
--- `dequantize::same` meets its contract. Assumes nothing.
+-- `stored_blocks::same` meets its contract. Assumes nothing.
 use borrow.Author.Needs.{needs}
-use Rattle.dequantize.proofs.Entry.{same-bad-first, same-bad-second, same-done}
-use Rattle.dequantize.proofs.same.Statement.{statement}
-use Rattle.dequantize.proofs.same.Tie as tie
+use Rattle.stored_blocks.proofs.Entries.{same-bad-first, same-bad-second, same-done}
+use Rattle.stored_blocks.proofs.same.Statement.{statement}
+use Rattle.stored_blocks.proofs.same.Tie as tie
 
 pub same-spec : {M : Type 1} → statement M
 same-spec =

@@ -1,4 +1,4 @@
--- `dequantize::in_range` meets its contract. Assumes nothing.
+-- `stored_blocks::in_range` meets its contract. Assumes nothing.
 use mathlib.Core.Path.{_∙_}
 use mathlib.Core.Bool.{_&&_}
 use native.Mathlib.Omega.{arith}
@@ -9,8 +9,8 @@ use mir.Syntax.{w16, w32}
 use mir.ValLaws.{toZ-ofZ}
 use Rattle.integers.proofs.Bound.{small-fits}
 use Rattle.quantize.specs.Quantize.{divisorOf}
-use Rattle.dequantize.proofs.in_range.Statement.{statement}
-use Rattle.dequantize.proofs.in_range.Tie as tie
+use Rattle.stored_blocks.proofs.in_range.Statement.{statement}
+use Rattle.stored_blocks.proofs.in_range.Tie as tie
 
 returns : tie.Need-returns
 returns c =

@@ -1,8 +1,8 @@
--- `dequantize::screen` meets its contract. Assumes nothing.
+-- `stored_blocks::screen` meets its contract. Assumes nothing.
 use borrow.Author.Needs.{needs}
-use Rattle.dequantize.proofs.Entry.{screen-bad-block, screen-bad-quant, screen-done}
-use Rattle.dequantize.proofs.screen.Statement.{statement}
-use Rattle.dequantize.proofs.screen.Tie as tie
+use Rattle.stored_blocks.proofs.Entries.{screen-bad-block, screen-bad-quant, screen-done}
+use Rattle.stored_blocks.proofs.screen.Statement.{statement}
+use Rattle.stored_blocks.proofs.screen.Tie as tie
 
 pub screen-spec : {M : Type 1} → statement M
 screen-spec =

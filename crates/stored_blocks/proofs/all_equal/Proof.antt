@@ -1,4 +1,4 @@
--- `dequantize::all_equal` meets its contract. Assumes nothing.
+-- `stored_blocks::all_equal` meets its contract. Assumes nothing.
 use Prim.Native.Nat.{_≤_, _-_}
 use mathlib.Core.Path.{_≡_, refl, _∙_}
 use native.Mathlib.Omega.{arith}
@@ -10,9 +10,9 @@ use mir.ValLaws.{toZ-ofZ}
 use Rattle.integers.specs.Equal.{eqZ}
 use Rattle.lists.specs.Below.{below}
 use Rattle.lists.proofs.Below.{below-next, below-all}
-use Rattle.dequantize.specs.Dequantize.{sameBlocks}
-use Rattle.dequantize.proofs.all_equal.Statement.{statement}
-use Rattle.dequantize.proofs.all_equal.Tie as tie
+use Rattle.stored_blocks.specs.Stored.{sameBlocks}
+use Rattle.stored_blocks.proofs.all_equal.Statement.{statement}
+use Rattle.stored_blocks.proofs.all_equal.Tie as tie
 
 abbrev Inv-loop : tie.InvT-loop
 Inv-loop a b all₀ n₀ all n = (n ≤ 64) × (all ≡ below n (λ k. eqZ (getD a k (pos 0)) (getD b k (pos 0))))
