@@ -18,7 +18,7 @@ fn wide(value: u32) -> u64 {
 
 // The size of a basis integer.
 fn size(entry: i32) -> u64 {
-    let bits = word::to_bits_i32(entry);
+    let bits = bits::to_bits_i32(entry);
     if entry < 0 {
         wide(std::num::wrapping_sub_u32(0, bits))
     } else {

@@ -15,7 +15,7 @@ pub fn decimal_usize(n: usize) {
 
 // A number with its sign, in decimal.
 pub fn number(n: i32) {
-    let bits = word::to_bits_i32(n);
+    let bits = bits::to_bits_i32(n);
     if n < 0 {
         text(b"-");
         decimal(std::num::wrapping_sub_u32(0, bits));
@@ -25,7 +25,7 @@ pub fn number(n: i32) {
 }
 
 pub fn number_i64(n: i64) {
-    let bits = word::to_bits_i64(n);
+    let bits = bits::to_bits_i64(n);
     if n < 0 {
         text(b"-");
         io::print_decimal(STDOUT_FILENO, std::num::wrapping_sub_u64(0, bits));

@@ -46,13 +46,13 @@ pub fn differs_i16(case: &[u8; ROOM], at: usize, answer: i16) -> bool
 pub fn differs_i32(case: &[u8; ROOM], at: usize, answer: i32) -> bool
     requires { ⌜ at + 4 ≤ 1024 ⌝ }
 {
-    word::to_bits_i32(answer) != u32_at(case, at)
+    bits::to_bits_i32(answer) != u32_at(case, at)
 }
 
 pub fn differs_i64(case: &[u8; ROOM], at: usize, answer: i64) -> bool
     requires { ⌜ at + 8 ≤ 1024 ⌝ }
 {
-    word::to_bits_i64(answer) != u64_at(case, at)
+    bits::to_bits_i64(answer) != u64_at(case, at)
 }
 
 pub fn differs_u64(case: &[u8; ROOM], at: usize, answer: u64) -> bool

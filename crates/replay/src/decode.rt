@@ -64,13 +64,13 @@ pub fn i16_at(case: &[u8; ROOM], at: usize) -> i16
 pub fn i32_at(case: &[u8; ROOM], at: usize) -> i32
     requires { ⌜ at + 4 ≤ 1024 ⌝ }
 {
-    word::from_bits_u32(u32_at(case, at))
+    bits::from_bits_u32(u32_at(case, at))
 }
 
 pub fn i64_at(case: &[u8; ROOM], at: usize) -> i64
     requires { ⌜ at + 8 ≤ 1024 ⌝ }
 {
-    word::from_bits_u64(u64_at(case, at))
+    bits::from_bits_u64(u64_at(case, at))
 }
 
 pub fn f64_at(case: &[u8; ROOM], at: usize) -> f64
