@@ -1,0 +1,3 @@
+pub mod Error
+pub mod Sum
+pub mod FixedPoint
