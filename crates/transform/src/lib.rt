@@ -1,7 +1,7 @@
 // The guarded quantizer (transform.rs, `fdct_quantize` without its vector code; document 01, "The guarded quantizer").
 //
-// The f64 transform and one product give each coefficient, unless the product lies so near to a half that its rounding error could
-// decide: there the canonical transform does.
+// After the refusals a block of equal samples goes its own way (crate constant_block); of any other, the guarded coefficients (crate guarded)
+// are laid out as one record (crate quantized_block).
 ghost use mathlib.Core.Path.{_≡_};
 ghost use Rattle.transform.specs.Guarded.{refusal, guardedAnswer};
 use aan::QuantizationDivisors;
