@@ -3,151 +3,26 @@
 -- rounded, and q is no nearer than 2 ^ -16 to a half, unless the rest is within a unit of an end.
 -- Assumes nothing.
 use mathlib.Core.Path.{_≡_, refl, sym, ap, subst, _∙_}
-use mathlib.Core.Logic.{_⊎_, inl, inr}
-use mathlib.Core.Bool.{Bool, true, false, not, _&&_, and-false, true≢false}
-use lib.Arith.{digits-mod}
-use Prim.Native.Nat.{ℕ, zero, suc, _+_, _-_, _*_, _/_, _%_, _^_, _≤_, _<_, min}
-use native.Mathlib.Decide.{decLt, decLe}
-use native.Mathlib.Nat.{le-refl, le-trans, sub-le, add-lt-add-of-lt-of-le, le-of-eq, lt-irrefl, mul-le-mul-left, lt-of-lt-of-le, lt-of-le-of-lt, mul-assoc, mul-right-comm, add-mul, mul-le-mul-right, mul-lt-mul-of-pos-right, lt-of-mul-lt-mul-right, le-of-mul-le-mul-right, suc-mul, div-add-mod', div-eq-of-lt-le, eq-of-mul-eq-mul-right, le-add-right}
+use mathlib.Core.Bool.{Bool, true, false, not, _&&_, true≢false}
+use Prim.Native.Nat.{ℕ, _+_, _-_, _*_, _/_, _%_, _^_, _≤_, _<_, min}
+use native.Mathlib.Nat.{le-refl, sub-le, add-lt-add-of-lt-of-le, le-of-eq, lt-of-lt-of-le, lt-of-le-of-lt, mul-right-comm, mul-lt-mul-of-pos-right, lt-of-mul-lt-mul-right}
 use native.Mathlib.Omega.{arith}
-use borrow.Author.Tests.{ltb-true, leb-true, le-ltb}
-use lib.Dec.{T, leb, ltb, lit≤, lit<}
+use borrow.Author.Tests.{ltb-true, leb-true}
+use lib.Dec.{T, leb, lit≤, lit<}
 use lib.IntN.{ℤ, pos, negsuc, negℤ, _-ℤ_}
-use lib.Pow.{pow-pos, pow-mono}
-use lib.Ieee.{Float, nan, inf, fin, up, down, binary64, fits, isNan, ne, neg, lt, ofBits, add, round}
-use lib.Ieee.Fits.{down-pos, add-fits}
+use lib.Pow.{pow-pos}
+use lib.Ieee.{Float, nan, inf, fin, up, down, binary64, fits, isNan, neg, lt, ofBits, add, round}
+use lib.Ieee.Fits.{add-fits}
 use lib.Ieee.Exact.{HasValue}
 use Rattle.integers.proofs.Difference.{differences, dif-eq}
-use Rattle.quantize.specs.Quantize.{rounded}
-use Rattle.quantize.proofs.Halves.{rounded-half}
-use Rattle.binary64.specs.Binary64.{aroundHalf, nearHalf, roundedToI16}
-use Rattle.binary64.proofs.Fields.{is-nan, no-nan, weight, negative, exponent, digits, finite, normal, infinite, small}
+use Rattle.binary64.specs.Binary64.{nearHalf, roundedToI16}
+use Rattle.binary64.proofs.Fields.{no-nan, weight, negative, exponent, digits, finite}
 use Rattle.binary64.proofs.NearHalf.{near-value}
 use Rattle.binary64.proofs.Rounding.{saturated, rounded-value, below-end, above-end}
 use Rattle.binary64_sum.proofs.Error.{round-near}
 use Rattle.binary64_sum.proofs.Sum.{plus, exact-sum}
-
--- ---- a fraction that is clear of one half: a, of which 65536 * g is one, with half of that added, lies g at least above a whole number and
--- g at least below the next
-module _ (g : ℕ) (G : 0 < g) (a n y : ℕ) (e : a + 32768 * g ≡ n * (65536 * g) + y) (above : g ≤ y) (under : y + g ≤ 65536 * g) where
-  one : 2 * (32768 * g) ≡ 65536 * g
-  one = omega arith
-
-  clear-rounded : rounded a (65536 * g) ≡ n
-  clear-rounded =
-      let next : (n + 1) * (65536 * g) ≡ n * (65536 * g) + 65536 * g = omega (arith, add-mul n 1 (65536 * g)) in
-      ap (rounded a) (sym one) ∙ sym (rounded-half a (32768 * g) (omega arith)) ∙ ap (λ (m : ℕ). (a + 32768 * g) / m) one ∙ div-eq-of-lt-le (65536 * g) (omega arith) (omega arith)
-
-  outside : (r : ℕ) → a % (65536 * g) ≡ r → (r + g ≤ 32768 * g) ⊎ (32768 * g + g ≤ r) → aroundHalf (a % (65536 * g)) (65536 * g) ≡ false
-  unfolding aroundHalf
-  outside r q h = rw q (elim h [
-    | inl l ↦ rw (le-ltb (65536 * g * (2 ^ 18 - 1)) (r * 2 ^ 19) (omega arith)) refl
-    | inr l ↦ rw (le-ltb (r * 2 ^ 19) (65536 * g * (2 ^ 18 + 1)) (omega arith)) (and-false (ltb (65536 * g * (2 ^ 18 - 1)) (r * 2 ^ 19)))
-  ])
-
-  clear-of-half : aroundHalf (a % (65536 * g)) (65536 * g) ≡ false
-  clear-of-half = go (decLe (32768 * g) y)
-    where
-      go : Dec (32768 * g ≤ y) → aroundHalf (a % (65536 * g)) (65536 * g) ≡ false
-      go (yes l) =
-          let s : a ≡ n * (65536 * g) + (y - 32768 * g) = omega arith in
-          outside (y - 32768 * g) (ap (λ (b : ℕ). b % (65536 * g)) s ∙ digits-mod n (omega arith)) (inl (omega arith))
-      go (no l) = split n e
-        where
-          split : (k : ℕ) → a + 32768 * g ≡ k * (65536 * g) + y → aroundHalf (a % (65536 * g)) (65536 * g) ≡ false
-          split zero e = absurd (omega arith)
-          split (suc k) e =
-              let s : a ≡ k * (65536 * g) + (y + 32768 * g) = omega (arith, suc-mul k (65536 * g)) in
-              outside (y + 32768 * g) (ap (λ (b : ℕ). b % (65536 * g)) s ∙ digits-mod k (omega arith)) (inr (omega arith))
-
--- ---- from the digits t of the sum, in units of g: t is within one of ±a / g + 2 ^ 31 + 2 ^ 15
-module _ (g : ℕ) (G : 0 < g) (a t : ℕ) (above : 2 ≤ t % 65536) (under : t % 65536 ≤ 65534) where
-  abbrev w : ℕ
-  w = t / 65536
-
-  abbrev r : ℕ
-  r = t % 65536
-
-  parts : t * g ≡ w * (65536 * g) + r * g
-  parts = ap (λ (z : ℕ). z * g) (sym (div-add-mod' t 65536)) ∙ add-mul (w * 65536) r g ∙ ap (λ (z : ℕ). z + r * g) (mul-assoc w 65536 g)
-
-  abbrev Settled : ℕ → Type 0
-  Settled n = (rounded a (65536 * g) ≡ n) × (aroundHalf (a % (65536 * g)) (65536 * g) ≡ false)
-
-  settled-at : (n y : ℕ) → a + 32768 * g ≡ n * (65536 * g) + y → g ≤ y → y + g ≤ 65536 * g → Settled n
-  settled-at n y e h k = (clear-rounded g G a n y e h k, clear-of-half g G a n y e h k)
-
-  settled-up : (2 ^ 31 + 2 ^ 15) * g + a ≤ t * g + g → t * g ≤ (2 ^ 31 + 2 ^ 15) * g + a + g → (n : ℕ) × (w ≡ n + 32768) × Settled n
-  settled-up h k =
-      let least : 2 ^ 31 ≤ t = le-of-mul-le-mul-right (omega arith) G in
-      let n : ℕ = w - 32768 in
-      let e : w ≡ n + 32768 = omega arith in
-      let whole : w * (65536 * g) ≡ n * (65536 * g) + 32768 * (65536 * g) = ap (λ (z : ℕ). z * (65536 * g)) e ∙ add-mul n 32768 (65536 * g) in
-      let y : ℕ = a + 32768 * g - n * (65536 * g) in
-      let low : 2 * g ≤ r * g = mul-le-mul-right g above in
-      let high : r * g ≤ 65534 * g = mul-le-mul-right g under in
-      (n, e, settled-at n y (omega (arith, parts)) (omega (arith, parts)) (omega (arith, parts)))
-
-  settled-down : (2 ^ 31 + 2 ^ 15) * g ≤ t * g + a + g → t * g + a ≤ (2 ^ 31 + 2 ^ 15) * g + g → (n : ℕ) × (n + w ≡ 32768) × Settled n
-  settled-down h k =
-      let most : t ≤ 2 ^ 31 + 2 ^ 15 + 1 = le-of-mul-le-mul-right (omega arith) G in
-      let n : ℕ = 32768 - w in
-      let e : n + w ≡ 32768 = omega arith in
-      let whole : n * (65536 * g) + w * (65536 * g) ≡ 32768 * (65536 * g) = sym (add-mul n w (65536 * g)) ∙ ap (λ (z : ℕ). z * (65536 * g)) e in
-      let y : ℕ = a + 32768 * g - n * (65536 * g) in
-      let low : 2 * g ≤ r * g = mul-le-mul-right g above in
-      let high : r * g ≤ 65534 * g = mul-le-mul-right g under in
-      (n, e, settled-at n y (omega (arith, parts)) (omega (arith, parts)) (omega (arith, parts)))
-
--- ---- the digits of a float by its value
-same-value : (x : Float) (s s′ : Bool) (v v′ : ℕ) → HasValue x s v (2 ^ 1074) → HasValue x s′ v′ (2 ^ 1074) → v ≡ v′
-same-value nan s s′ v v′ h k = absurd h
-same-value (inf t) s s′ v v′ h k = absurd h
-same-value (fin t m e) s s′ v v′ h k = eq-of-mul-eq-mul-right (down e) (down-pos e) v v′ (sym (h .1) ∙ k .1)
-
-module _ (x : Float) (F : T (fits binary64 x)) (s : Bool) (v : ℕ) (h : HasValue x s v (2 ^ 1074)) where
-  is-number : ne x x ≡ false
-  is-number = go (ne x x) refl
-    where
-      go : (t : Bool) → ne x x ≡ t → t ≡ false
-      go true e = absurd (subst (λ (y : Float). HasValue y s v (2 ^ 1074)) (is-nan x e) h)
-      go false e = refl
-
-  is-finite : exponent x < 2047
-  is-finite = go (decLt (exponent x) 2047)
-    where
-      go : Dec (exponent x < 2047) → exponent x < 2047
-      go (yes l) = l
-      go (no l) = absurd (subst (λ (y : Float). HasValue y s v (2 ^ 1074)) (infinite x F is-number (omega arith)) h)
-
-  -- from 2 ^ 36 to 2 ^ 37
-  module _ (least : 2 ^ 1110 ≤ v) (most : v < 2 ^ 1111) where
-    field-least : 1059 ≤ exponent x
-    field-least = go (decLt (exponent x) 1059)
-      where
-        go : Dec (exponent x < 1059) → 1059 ≤ exponent x
-        go (yes l) =
-            let e : weight (exponent x) (digits x) ≡ v = same-value x (negative x) s _ v (finite x F is-finite) h in
-            absurd (lt-irrefl v (lt-of-lt-of-le (lt-of-le-of-lt (le-of-eq (sym e)) (small x 1058 (omega arith))) least))
-        go (no l) = omega arith
-
-    value : (2 ^ 52 + digits x) * 2 ^ (exponent x - 1) ≡ v
-    value = same-value x (negative x) s _ v (normal x F (le-trans (lit≤ tt) field-least) is-finite) h
-
-    field-most : exponent x ≤ 1059
-    field-most = go (decLt 1059 (exponent x))
-      where
-        go : Dec (1059 < exponent x) → exponent x ≤ 1059
-        go (yes l) =
-            let m : 1059 ≤ exponent x - 1 = omega arith in
-            let big : 2 ^ 52 * 2 ^ 1059 ≤ v = le-trans (mul-le-mul-left (2 ^ 52) (pow-mono m)) (le-trans (mul-le-mul-right (2 ^ (exponent x - 1)) (le-add-right (2 ^ 52) (digits x))) (le-of-eq value)) in
-            absurd (lt-irrefl v (lt-of-lt-of-le most big))
-        go (no l) = omega arith
-
-    digits-value : (2 ^ 52 + digits x) * 2 ^ 1058 ≡ v
-    digits-value = let e : exponent x - 1 ≡ 1058 = omega (arith, field-least, field-most) in ap (λ (k : ℕ). (2 ^ 52 + digits x) * 2 ^ k) (sym e) ∙ value
-
--- ---- q + 2 ^ 36 + 32768.5
+use Rattle.binary64_sum.proofs.Clear.{settled-up, settled-down}
+use Rattle.binary64_sum.proofs.Digits.{finite-field, is-number, digits-value}
 
 abbrev addend : Float
 addend = fin false (2 ^ 37 + 65537) (negsuc 0)
@@ -160,13 +35,9 @@ b = (2 ^ 52 + 2 ^ 31 + 2 ^ 15) * 2 ^ 1058
 abbrev Below : Float → Type 0
 Below q = (lt (fin true 32767 (pos 0)) q ≡ true) × (lt q (fin false 32767 (pos 0)) ≡ true)
 
-below-number : (q : Float) → Below q → ne q q ≡ false
+no-nan-below : Below nan → ⊥
 unfolding lt
-below-number q h = go (ne q q) refl
-  where
-    go : (t : Bool) → ne q q ≡ t → t ≡ false
-    go true e = absurd (true≢false (sym (subst (λ (y : Float). Below y) (is-nan q e) h .0)))
-    go false e = refl
+no-nan-below h = true≢false (sym (h .0))
 
 no-infinity : (t : Bool) → Below (inf t) → ⊥
 unfolding lt
@@ -237,11 +108,7 @@ module _ (q : Float) (F : T (fits binary64 q)) (B : Below q) where
   size = weight (exponent q) (digits q)
 
   q-value : HasValue q s size (2 ^ 1074)
-  q-value = finite q F (go (decLt (exponent q) 2047))
-    where
-      go : Dec (exponent q < 2047) → exponent q < 2047
-      go (yes l) = l
-      go (no l) = absurd (no-infinity s (subst Below (infinite q F (below-number q B) (omega arith)) B))
+  q-value = finite q F (finite-field Below no-nan-below no-infinity q F B)
 
   q-size : size < 32767 * 2 ^ 1074
   q-size = below-size q s size q-value B
