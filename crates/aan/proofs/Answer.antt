@@ -1,4 +1,4 @@
--- The answers of `quantization_divisors`, as its contract states them.
+-- The answers of calls that test their quantizer table.
 -- Assumes nothing.
 use mathlib.Core.Path.{_≡_, refl}
 use mathlib.Core.Bool.{true, false}
@@ -6,22 +6,17 @@ use mathlib.Core.List.{List}
 use Prim.Native.Nat.{ℕ}
 use borrow.Author.Tests.{eq-eqb, ne-eqb}
 use lib.ListN.{length}
-use lib.Ieee.{Float}
-use Rattle.aan.specs.declared.MadeDivisors.{MadeDivisors}
-use Rattle.aan.specs.Divisors.{reciprocals, hasZero, refusal, divisorsAnswer}
+use Rattle.aan.specs.Divisors.{hasZero, tableTested}
 
-module _ (quant : List ℕ) where
-  pub bad-table : {m : MadeDivisors} → m ≡ refusal 2 → (length quant ≡ 64 → ⊥) → m ≡ divisorsAnswer quant
-  unfolding divisorsAnswer
-  bad-table e h = simp (ne-eqb (length quant) 64 h) e
+module _ {A : Type 0} (quant : List ℕ) (refused : ℕ → A) (answer : A) where
+  pub bad-table : (length quant ≡ 64 → ⊥) → refused 2 ≡ tableTested quant refused answer
+  unfolding tableTested
+  bad-table h = simp (ne-eqb (length quant) 64 h) refl
 
-  pub zero-quantizer : {m : MadeDivisors} → m ≡ refusal 5 → length quant ≡ 64 → hasZero quant ≡ true → m ≡ divisorsAnswer quant
-  unfolding divisorsAnswer
-  zero-quantizer e h z = simp (eq-eqb (length quant) 64 h, z) e
+  pub zero-quantizer : length quant ≡ 64 → hasZero quant ≡ true → refused 5 ≡ tableTested quant refused answer
+  unfolding tableTested
+  zero-quantizer h z = simp (eq-eqb (length quant) 64 h, z) refl
 
-  abbrev made : List Float → MadeDivisors
-  made l = record { status = 0; divisors = record { reciprocals = l } }
-
-  pub done : {l : List Float} → l ≡ reciprocals quant → length quant ≡ 64 → hasZero quant ≡ false → made l ≡ divisorsAnswer quant
-  unfolding divisorsAnswer
-  done e h z = simp (eq-eqb (length quant) 64 h, z, e) refl
+  pub table-passed : length quant ≡ 64 → hasZero quant ≡ false → answer ≡ tableTested quant refused answer
+  unfolding tableTested
+  table-passed h z = simp (eq-eqb (length quant) 64 h, z) refl

@@ -1,4 +1,2 @@
 pub mod Zero
 pub mod Answer
-pub mod ByColumns
-pub mod Values

@@ -7,8 +7,21 @@ use lib.ListN.{length, getD}
 use lib.IntN.{pos}
 use lib.Ieee.{Float, nan, binary64, mul, div, ofInt}
 use Rattle.lists.specs.Tab.{tab}
-use Rattle.aan.specs.Literals.{decimal, aanScale}
+use Rattle.fdct_8.specs.Literals.{decimal}
 use Rattle.aan.specs.declared.MadeDivisors.{MadeDivisors}
+
+-- `AAN_SCALE`
+unfoldable pub aanScale : List Float
+aanScale =
+    decimal 1 0
+    ∷ decimal 13870398453221475 16
+    ∷ decimal 13065629648763766 16
+    ∷ decimal 11758756024193588 16
+    ∷ decimal 1 0
+    ∷ decimal 7856949583871022 16
+    ∷ decimal 5411961001461971 16
+    ∷ decimal 2758993792829431 16
+    ∷ []
 
 -- the reciprocal of 8·AAN_SCALE[u]·AAN_SCALE[v]·quantizer, multiplied left to right
 unfoldable pub reciprocal : ℕ → ℕ → ℕ → Float
@@ -26,13 +39,13 @@ unfoldable pub hasZero : List ℕ → Bool
 hasZero [] = false
 hasZero (q ∷ quant) = eqb q 0 || hasZero quant
 
+-- "2, a quantizer table not of 64"; "then 5, a quantizer 0 anywhere": the answer of a call that tests its table so
+unfoldable pub tableTested : {A : Type 0} → List ℕ → (ℕ → A) → A → A
+tableTested quant refused answer = cond (eqb (length quant) 64) (cond (hasZero quant) (refused 5) answer) (refused 2)
+
 -- a refused answer is zero beside its number
 unfoldable pub refusal : ℕ → MadeDivisors
 refusal s = record { status = s; divisors = record { reciprocals = tab 64 (λ _. decimal 0 0) } }
 
--- 2, a quantizer table not of 64; then 5, a quantizer 0 anywhere
 unfoldable pub divisorsAnswer : List ℕ → MadeDivisors
-divisorsAnswer quant =
-    cond (eqb (length quant) 64)
-    (cond (hasZero quant) (refusal 5) (record { status = 0; divisors = record { reciprocals = reciprocals quant } }))
-    (refusal 2)
+divisorsAnswer quant = tableTested quant refusal (record { status = 0; divisors = record { reciprocals = reciprocals quant } })

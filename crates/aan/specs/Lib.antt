@@ -1,3 +1,1 @@
-pub mod Literals
 pub mod Divisors
-pub mod Transform

@@ -69,11 +69,11 @@ unfolding toSigned
 beyond true n h = let e : min (n * 1 / 1) (2 ^ 15) ≡ 2 ^ 15 = omega arith in ap (λ (k : ℕ). negℤ (pos k)) e
 beyond false n h = let e : min (n * 1 / 1) (2 ^ 15 - 1) ≡ 2 ^ 15 - 1 = omega arith in ap pos e
 
-below-end : (n : ℕ) → pos (min n (2 ^ 15 - 1)) ≡ saturated false n
+pub below-end : (n : ℕ) → pos (min n (2 ^ 15 - 1)) ≡ saturated false n
 unfolding toSigned
 below-end n = let e : min n (2 ^ 15 - 1) ≡ min (n * 1 / 1) (2 ^ 15 - 1) = omega arith in ap pos e
 
-above-end : (n : ℕ) → n ≤ 2 ^ 15 → negℤ (pos n) ≡ saturated true n
+pub above-end : (n : ℕ) → n ≤ 2 ^ 15 → negℤ (pos n) ≡ saturated true n
 unfolding toSigned
 above-end n h = let e : n ≡ min (n * 1 / 1) (2 ^ 15) = omega arith in ap (λ (k : ℕ). negℤ (pos k)) e
 

@@ -1,2 +1,1 @@
-pub mod Bitmap
 pub mod Guarded

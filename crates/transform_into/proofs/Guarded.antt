@@ -8,7 +8,7 @@ use lib.IntN.{ℤ, pos}
 use lib.Ieee.{Float}
 use Rattle.lists.specs.Tab.{tab}
 use Rattle.lists.proofs.Tab.{tab-getD}
-use Rattle.transform.specs.declared.QuantizedBlock.{QuantizedBlock}
+use Rattle.quantized_block.specs.declared.QuantizedBlock.{QuantizedBlock}
 use Rattle.transform.specs.declared.Quantized.{Quantized}
 use Rattle.transform.specs.Guarded.{guardedAnswer}
 use Rattle.transform_into.specs.Into.{written, recordStatus, guardedStatus, handed}

@@ -11,7 +11,7 @@ use lib.Ieee.{Float, nan}
 use Rattle.lists.specs.Tab.{tab}
 use Rattle.lists.proofs.Tab.{length-tab, tab-getD}
 use Rattle.aan.specs.declared.MadeDivisors.{MadeDivisors}
-use Rattle.aan.specs.Divisors.{reciprocals, hasZero, refusal, divisorsAnswer}
+use Rattle.aan.specs.Divisors.{reciprocals, hasZero, tableTested, refusal, divisorsAnswer}
 use Rattle.transform_into.specs.Into.{written, madeStatus}
 use Rattle.transform_into.proofs.Status.{kept, wrote}
 
@@ -22,7 +22,7 @@ long true true quant = length-tab 64 _
 long true false quant = length-tab 64 _
 
 length-reciprocals : (quant : List ℕ) → length (divisorsAnswer quant .divisors .reciprocals) ≡ 64
-unfolding divisorsAnswer
+unfolding divisorsAnswer tableTested
 length-reciprocals quant = long (eqb (length quant) 64) (hasZero quant) quant
 
 module _ (quant : List ℕ) (out : List Float) (made : MadeDivisors) (called : made ≡ divisorsAnswer quant) where

@@ -12,11 +12,12 @@ use lib.IntN.{ℤ, pos}
 use lib.Ieee.{Float, nan}
 use Rattle.lists.specs.Tab.{tab}
 use Rattle.lists.proofs.Tab.{length-tab, tab-getD}
-use Rattle.aan.specs.Literals.{decimal}
-use Rattle.aan.specs.Divisors.{hasZero}
-use Rattle.transform.specs.declared.QuantizedBlock.{QuantizedBlock}
+use Rattle.fdct_8.specs.Literals.{decimal}
+use Rattle.aan.specs.Divisors.{hasZero, tableTested}
+use Rattle.quantized_block.specs.declared.QuantizedBlock.{QuantizedBlock}
 use Rattle.transform.specs.declared.Quantized.{Quantized}
-use Rattle.transform.specs.Guarded.{acPlaces, recordOf, refusal, guardedAnswer, coefficientsOf}
+use Rattle.quantized_block.specs.Record.{acPlaces, recordOf}
+use Rattle.transform.specs.Guarded.{refusal, guardedAnswer}
 use Rattle.transform_into.specs.Into.{written, recordStatus, handed}
 
 module _ (s n d a b : ℕ) where
@@ -104,11 +105,11 @@ answer-ac true true false f = length-tab 64 _
 module _ (block quant : List ℕ) where
   -- No divisor decides what is refused.
   pub status-same : (x y : List Float) → guardedAnswer block quant x .status ≡ guardedAnswer block quant y .status
-  unfolding guardedAnswer
+  unfolding guardedAnswer tableTested
   status-same x y = answer-status (eqb (length block) 64) (eqb (length quant) 64) (hasZero quant) _ _
 
   pub length-ac : (x : List Float) → length (guardedAnswer block quant x .block .«ac_coefficients») ≡ 64
-  unfolding guardedAnswer
+  unfolding guardedAnswer tableTested
   length-ac x = answer-ac (eqb (length block) 64) (eqb (length quant) 64) (hasZero quant) _
 
 module _ (xs : List Float) where

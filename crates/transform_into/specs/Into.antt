@@ -7,7 +7,7 @@ use lib.ListN.{length}
 use lib.IntN.{ℤ}
 use lib.Ieee.{Float}
 use Rattle.lists.specs.Tab.{tab}
-use Rattle.aan.specs.Literals.{decimal}
+use Rattle.fdct_8.specs.Literals.{decimal}
 use Rattle.aan.specs.Divisors.{divisorsAnswer}
 use Rattle.transform.specs.Guarded.{guardedAnswer}
 

@@ -1,7 +1,8 @@
 -- `aan::aan_scale` meets its contract: the literals' bits, computed. Assumes nothing.
 use mathlib.Core.Path.{refl}
 use lib.Ieee.{ofBits, round}
-use Rattle.aan.specs.Literals.{decimal, aanScale}
+use Rattle.fdct_8.specs.Literals.{decimal}
+use Rattle.aan.specs.Divisors.{aanScale}
 use Rattle.aan.proofs.aan_scale.Statement.{statement}
 use Rattle.aan.proofs.aan_scale.Tie as tie
 

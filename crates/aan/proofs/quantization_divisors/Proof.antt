@@ -1,26 +1,39 @@
 -- `aan::quantization_divisors` meets its contract. Assumes nothing.
-use mathlib.Core.Path.{sym, _∙_}
+use mathlib.Core.Path.{sym, ap, _∙_}
+use mathlib.Core.List.{List}
 use borrow.Author.Needs.{needs}
-use Rattle.aan.proofs.Answer.{bad-table, zero-quantizer, done}
+use lib.Ieee.{Float}
+use Rattle.aan.specs.declared.MadeDivisors.{MadeDivisors}
+use Rattle.aan.specs.Divisors.{divisorsAnswer}
+use Rattle.aan.proofs.Answer.{bad-table, zero-quantizer, table-passed}
 use Rattle.aan.proofs.quantization_divisors.Statement.{statement}
 use Rattle.aan.proofs.quantization_divisors.Tie as tie
 
+returns : tie.Need-returns
+unfolding divisorsAnswer
+returns c = c .refused .ensures ∙ bad-table _ _ _ (c .before .if1 .taken)
+
 returns-2 : tie.Need-returns-2
+unfolding divisorsAnswer
 returns-2 c =
     let test = c .before .before in
-    zero-quantizer _ (c .refused2 .ensures) (test .before .if1 .left) (sym (test .has-zero .ensures) ∙ c .before .if2 .taken)
+    c .refused2 .ensures ∙ zero-quantizer _ _ _ (test .before .if1 .left) (sym (test .has-zero .ensures) ∙ c .before .if2 .taken)
+
+abbrev made : List Float → MadeDivisors
+made l = record { status = 0; divisors = record { reciprocals = l } }
 
 returns-3 : tie.Need-returns-3
+unfolding divisorsAnswer
 returns-3 c =
     let test = c .before .before in
-    done _ (c .reciprocals-of .ensures) (test .before .if1 .left) (sym (test .has-zero .ensures) ∙ c .before .if2 .left)
+    ap made (c .reciprocals-of .ensures) ∙ table-passed _ _ _ (test .before .if1 .left) (sym (test .has-zero .ensures) ∙ c .before .if2 .left)
 
 pub quantization-divisors-spec : {M : Type 1} → statement M
 quantization-divisors-spec =
     tie.close
     (tie.spec
     (λ c κs. search needs)
-    (λ c. bad-table _ (c .refused .ensures) (c .before .if1 .taken))
+    returns
     (λ c κs. search needs)
     (λ c κs. search needs)
     returns-2

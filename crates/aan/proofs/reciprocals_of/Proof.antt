@@ -8,8 +8,8 @@ use lib.ListN.{getD}
 use lib.IntN.{pos}
 use lib.Ieee.{Float, nan, binary64, mul, div, ofInt, ofBits, round}
 use Rattle.lists.proofs.Tab.{Filled, none, more, all}
-use Rattle.aan.specs.Literals.{decimal, aanScale}
-use Rattle.aan.specs.Divisors.{reciprocal, reciprocals}
+use Rattle.fdct_8.specs.Literals.{decimal}
+use Rattle.aan.specs.Divisors.{aanScale, reciprocal, reciprocals}
 use Rattle.aan.proofs.reciprocals_of.Statement.{statement}
 use Rattle.aan.proofs.reciprocals_of.Tie as tie
 
@@ -20,14 +20,14 @@ abbrev μ-loop : tie.MeasureT-loop
 μ-loop quant scale made₀ n₀ made n = 64 - n
 
 -- the operations, and the literals' bits, computed
-made-one : (q u v : ℕ) {scale : List Float} {x : Float} → scale ≡ aanScale → x ≡ ofInt binary64 (pos q) → div binary64 (ofBits binary64 0x3ff0_0000_0000_0000) (mul binary64 (mul binary64 (mul binary64 (ofBits binary64 0x4020_0000_0000_0000) (getD scale u nan)) (getD scale v nan)) x) ≡ reciprocal q u v
+made-one : (q u v : ℕ) {scale : List Float} → scale ≡ aanScale → div binary64 (ofBits binary64 0x3ff0_0000_0000_0000) (mul binary64 (mul binary64 (mul binary64 (ofBits binary64 0x4020_0000_0000_0000) (getD scale u nan)) (getD scale v nan)) (ofInt binary64 (pos q))) ≡ reciprocal q u v
 unfolding ofBits round decimal reciprocal
-made-one q u v e h = λ i. div binary64 (decimal 1 0) (mul binary64 (mul binary64 (mul binary64 (decimal 8 0) (getD (e i) u nan)) (getD (e i) v nan)) (h i))
+made-one q u v e = λ i. div binary64 (decimal 1 0) (mul binary64 (mul binary64 (mul binary64 (decimal 8 0) (getD (e i) u nan)) (getD (e i) v nan)) (ofInt binary64 (pos q)))
 
 loop-again : tie.Need-loop-again Inv-loop μ-loop
 loop-again c =
     let turn = c .before .before .before in
-    (omega arith, more _ 64 _ _ _ _ (turn .loop .inv .1) (omega arith) refl (made-one _ _ _ (turn .before .aan-scale .ensures) (c .float .ensures)))
+    (omega arith, more _ 64 _ _ _ _ (turn .loop .inv .1) (omega arith) refl (made-one _ _ _ (turn .before .aan-scale .ensures)))
 
 returns : tie.Need-returns Inv-loop μ-loop
 unfolding reciprocals
@@ -46,7 +46,7 @@ reciprocals-of-spec =
     (λ c. omega arith)
     (λ c. omega arith)
     (λ c. omega arith)
-    (λ c κs. search needs)
+    (λ c. search needs)
     (λ c. omega arith)
     (λ c. omega arith)
     (λ c. omega arith)

@@ -2,7 +2,7 @@
 use mathlib.Core.Path.{refl}
 use lib.Ieee.{ofBits, round}
 use Rattle.lists.specs.Tab.{tab}
-use Rattle.aan.specs.Literals.{decimal}
+use Rattle.fdct_8.specs.Literals.{decimal}
 use Rattle.aan.specs.Divisors.{refusal}
 use Rattle.aan.proofs.refused.Statement.{statement}
 use Rattle.aan.proofs.refused.Tie as tie

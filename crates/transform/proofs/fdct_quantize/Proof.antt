@@ -1,35 +1,43 @@
 -- `transform::fdct_quantize` meets its contract. Assumes nothing.
-use mathlib.Core.Path.{sym, _∙_}
+use mathlib.Core.Path.{sym, ap, _∙_}
+use mathlib.Core.Bool.{true, false}
 use borrow.Author.Needs.{needs}
-use Rattle.transform.proofs.Answer.{bad-block, bad-table, zero-quantizer, done-constant, done}
-use Rattle.transform.proofs.Record.{record-tab}
+use Rattle.quantized_block.specs.declared.QuantizedBlock.{QuantizedBlock}
+use Rattle.quantized_block.proofs.Record.{record-tab}
+use Rattle.aan.proofs.Answer.{bad-table, zero-quantizer, table-passed}
+use Rattle.transform.specs.declared.Quantized.{Quantized}
+use Rattle.transform.proofs.Answer.{bad-block, good-block, by-constant}
 use Rattle.transform.proofs.fdct_quantize.Statement.{statement}
 use Rattle.transform.proofs.fdct_quantize.Tie as tie
 
 returns : tie.Need-returns
-returns c = bad-block _ _ _ (c .refused .ensures) (c .before .if1 .taken)
+returns c = c .refused .ensures ∙ bad-block _ _ _ (c .before .if1 .taken)
 
 returns-2 : tie.Need-returns-2
-returns-2 c = bad-table _ _ _ (c .refused2 .ensures) (c .before .before .if1 .left) (c .before .if2 .taken)
+returns-2 c = c .refused2 .ensures ∙ bad-table _ _ _ (c .before .if2 .taken) ∙ good-block _ _ _ (c .before .before .if1 .left)
 
 returns-3 : tie.Need-returns-3
 returns-3 c =
     let test = c .before .before in
     let t = test .before in
-    zero-quantizer _ _ _ (c .refused3 .ensures) (t .before .if1 .left) (t .if2 .left) (sym (test .has-zero .ensures) ∙ c .before .if3 .taken)
+    c .refused3 .ensures ∙ zero-quantizer _ _ _ (t .if2 .left) (sym (test .has-zero .ensures) ∙ c .before .if3 .taken) ∙ good-block _ _ _ (t .before .if1 .left)
 
-flat-requires : tie.Need-flat-requires
-flat-requires c κs =
+constant-record-requires : tie.Need-constant-record-requires
+constant-record-requires c κs =
     let equal = c .before in
     let t = equal .before .before .before in
     (t .before .if1 .left, (sym (equal .all-equal .ensures) ∙ c .if4 .taken, t .if2 .left))
+
+abbrev answer : QuantizedBlock → Quantized
+answer r = record { status = 0; block = r }
 
 returns-4 : tie.Need-returns-4
 returns-4 c =
     let equal = c .before .before in
     let zero = equal .before .before in
     let t = zero .before in
-    done-constant _ _ _ (c .flat .ensures) (t .before .if1 .left) (t .if2 .left) (sym (zero .has-zero .ensures) ∙ equal .before .if3 .left) (sym (equal .all-equal .ensures) ∙ c .before .if4 .taken)
+    ap answer (c .constant-record .ensures) ∙ by-constant _ _ _ {t = true} (sym (c .before .if4 .taken) ∙ equal .all-equal .ensures)
+    ∙ table-passed _ _ _ (t .if2 .left) (sym (zero .has-zero .ensures) ∙ equal .before .if3 .left) ∙ good-block _ _ _ (t .before .if1 .left)
 
 returns-5 : tie.Need-returns-5
 returns-5 c =
@@ -38,8 +46,8 @@ returns-5 c =
     let equal = other .before in
     let zero = equal .before .before in
     let t = zero .before in
-    let done-record = record-tab _ (made .coefficients-of .ensures) (c .laid-out .ensures) in
-    done _ _ _ done-record (t .before .if1 .left) (t .if2 .left) (sym (zero .has-zero .ensures) ∙ equal .before .if3 .left) (sym (equal .all-equal .ensures) ∙ other .if4 .left)
+    ap answer (record-tab _ (made .guarded-coefficients .ensures) (c .from-natural-order .ensures)) ∙ by-constant _ _ _ {t = false} (sym (other .if4 .left) ∙ equal .all-equal .ensures)
+    ∙ table-passed _ _ _ (t .if2 .left) (sym (zero .has-zero .ensures) ∙ equal .before .if3 .left) ∙ good-block _ _ _ (t .before .if1 .left)
 
 pub fdct-quantize-spec : {M : Type 1} → statement M
 fdct-quantize-spec =
@@ -53,7 +61,7 @@ fdct-quantize-spec =
     (λ c κs. search needs)
     returns-3
     (λ c κs. search needs)
-    flat-requires
+    constant-record-requires
     returns-4
     (λ c κs. search needs)
     (λ c κs. search needs)

@@ -5,7 +5,7 @@ use native.Mathlib.Omega.{arith}
 use lib.ListN.{getD}
 use lib.Ieee.{nan, ofBits, round}
 use Rattle.lists.specs.Tab.{tab}
-use Rattle.aan.specs.Literals.{decimal}
+use Rattle.fdct_8.specs.Literals.{decimal}
 use Rattle.lists.proofs.Tab.{Filled, none, more, all}
 use Rattle.transform_into.proofs.Status.{handed-all, handed-none}
 use Rattle.transform_into.proofs.by_value.Statement.{statement}

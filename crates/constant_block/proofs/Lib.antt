@@ -1,0 +1,2 @@
+pub mod DcSum
+pub mod Record

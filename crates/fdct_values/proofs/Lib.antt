@@ -1,0 +1,2 @@
+pub mod ByColumns
+pub mod Values

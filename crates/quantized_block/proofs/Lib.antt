@@ -1,0 +1,4 @@
+pub mod Bits
+pub mod Bitmap
+pub mod Order
+pub mod Record
