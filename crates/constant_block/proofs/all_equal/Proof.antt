@@ -1,12 +1,11 @@
 -- `constant_block::all_equal` meets its contract. Assumes nothing.
-use Prim.Native.Nat.{ℕ, _≤_, _-_, _+_}
-use mathlib.Core.Path.{_≡_, refl, sym, ap, _∙_}
-use mathlib.Core.Bool.{Bool, _&&_}
-use native.Mathlib.Numerals.{add-one}
+use Prim.Native.Nat.{_≤_, _-_}
+use mathlib.Core.Path.{_≡_, refl}
 use native.Mathlib.Omega.{arith}
 use lib.Dec.{eqb}
 use lib.ListN.{getD}
 use Rattle.lists.specs.Below.{below}
+use Rattle.lists.proofs.Below.{below-next, below-all}
 use Rattle.constant_block.specs.Constant.{constant}
 use Rattle.constant_block.proofs.all_equal.Statement.{statement}
 use Rattle.constant_block.proofs.all_equal.Tie as tie
@@ -17,23 +16,17 @@ Inv-loop block first same₀ n₀ same n = (n ≤ 64) × (same ≡ below n (λ k
 abbrev μ-loop : tie.MeasureT-loop
 μ-loop block first same₀ n₀ same n = 64 - n
 
--- one place more
-next : (f : ℕ → Bool) (n : ℕ) {s : Bool} → s ≡ below n f → (f n && s) ≡ below (n + 1) f
-unfolding below
-next f n e = ap (λ (s : Bool). f n && s) e ∙ ap (λ (m : ℕ). below m f) (sym (add-one n))
-
 loop-again : tie.Need-loop-again Inv-loop μ-loop
 loop-again c =
     let turn = c .before .before in
-    (omega arith, next (λ k. eqb (getD (turn .before .before .args .block .now) k 0) _) (turn .loop .n) (turn .loop .inv .1))
+    (omega arith, below-next (λ k. eqb (getD (turn .before .before .args .block .now) k 0) _) (turn .loop .n) refl (turn .loop .inv .1))
 
 returns : tie.Need-returns Inv-loop μ-loop
 unfolding constant
 returns c =
     let l = c .before .loop in
     let block = c .before .before .before .args .block .now in
-    let e : l .n ≡ 64 = omega arith in
-    l .inv .1 ∙ ap (λ (m : ℕ). below m (λ k. eqb (getD block k 0) (getD block 0 0))) e
+    below-all (λ k. eqb (getD block k 0) (getD block 0 0)) (l .n) 64 (l .inv .1) (omega arith)
 
 pub all-equal-spec : {M : Type 1} → statement M
 unfolding below
