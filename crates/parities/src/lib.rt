@@ -15,7 +15,8 @@ use folds::fold;
 use halves::basis_high;
 use halves::basis_low;
 use quantize::quantize;
-use sums::parity_sums;
+use sums::half_sums;
+use sums::scaled;
 
 // The 16 coefficients of one parity of (u, v), by their fold.
 fn write_parity(
@@ -35,11 +36,12 @@ fn write_parity(
     ensures { λ _. ⌜ now (out .exit) ≡ parityWritten (now (samples .entry)) (now (quant .entry)) u v (now (out .entry)) ⌝ }
 {
     let f = fold(samples, u == 1, v == 1);
-    let s = parity_sums(&f, high, low, u, v);
+    let h = half_sums(&f, high, u, v);
+    let l = half_sums(&f, low, u, v);
     let mut k = 0;
     while k < 16 {
         let n = 16 * (k / 4) + 8 * v + 2 * (k % 4) + u;
-        out[n] = quantize(s[k], quant[n]);
+        out[n] = quantize(scaled(h[k], l[k]), quant[n]);
         k += 1;
     }
 }

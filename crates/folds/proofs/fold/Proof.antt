@@ -1,60 +1,89 @@
 -- `folds::fold` meets its contract. Assumes nothing.
-use Prim.Native.Nat.{ℕ}
-use mathlib.Core.Path.{_≡_, ap, _∙_}
-use mathlib.Core.List.{List, [], _∷_}
+use Prim.Native.Nat.{ℕ, _+_, _-_, _*_, _/_, _%_, _^_, _<_, _≤_}
+use mathlib.Core.Path.{_≡_, refl, ap, _∙_}
+use mathlib.Core.List.{List}
+use mathlib.Core.Bool.{Bool}
 use borrow.Author.Needs.{needs}
 use native.Mathlib.Omega.{arith}
-use lib.ListN.{getD}
-use lib.IntN.{ℤ, pos}
+use lib.IntN.{ℤ, natAbs}
 use mir.Syntax.{w16}
-use mir.Val.{SFits, toZ, ofZ}
-use mir.ValLaws.{toZ-ofZ}
-use Rattle.lists.specs.Tab.{tab}
-use Rattle.forward.specs.Forward.{foldOf}
+use mir.Val.{toZ, ofZ}
+use Rattle.lists.proofs.Tab.{Filled, none, more, all}
+use Rattle.forward.specs.Forward.{folded, foldOf}
+use Rattle.folds.proofs.Narrow.{kept}
 use Rattle.folds.proofs.fold.Statement.{statement}
 use Rattle.folds.proofs.fold.Tie as tie
 
--- an element of a row, read
-element : {r z : List ℤ} (j : ℕ) → r ≡ z → SFits w16 (getD r j (pos 0)) → toZ w16 (ofZ w16 (getD r j (pos 0))) ≡ getD z j (pos 0)
-element {r} j e f = toZ-ofZ w16 (getD r j (pos 0)) f ∙ ap (λ (l : List ℤ). getD l j (pos 0)) e
+abbrev at : List ℤ → Bool → Bool → ℕ → ℤ
+at c s t k = folded c s t (k % 4) (k / 4)
 
-returns : tie.Need-returns
-unfolding foldOf tab
+-- the fold at column x of row y is place 4y + x
+read : (c : List ℤ) (s t : Bool) (x y : ℕ) → x < 4 → (r : ℤ) → r ≡ folded c s t x y → natAbs r ≤ 2 ^ 13 → toZ w16 (ofZ w16 r) ≡ at c s t (4 * y + x)
+read c s t x y h r e b =
+    let ex : x ≡ (4 * y + x) % 4 = omega arith in
+    let ey : y ≡ (4 * y + x) / 4 = omega arith in
+    kept r (omega arith) ∙ e ∙ (λ i. folded c s t (ex i) (ey i))
+
+abbrev Inv-loop : tie.InvT-loop
+Inv-loop samples u-odd v-odd f₀ y₀ f y = (y ≤ 4) × Filled (at samples u-odd v-odd) 16 (4 * y) f
+
+abbrev μ-loop : tie.MeasureT-loop
+μ-loop samples u-odd v-odd f₀ y₀ f y = 4 - y
+
+loop-again : tie.Need-loop-again Inv-loop μ-loop
+loop-again c =
+    let c3 = c .before in
+    let c2 = c3 .before in
+    let c1 = c2 .before in
+    let turn = c1 .before .before in
+    let s = turn .before in
+    let y : ℕ = turn .loop .y in
+    let read′ = read (s .args .samples .now) (s .args .u-odd) (s .args .v-odd) in
+    let g : ℕ → ℤ = at (s .args .samples .now) (s .args .u-odd) (s .args .v-odd) in
+    let v0 = read′ 0 y (omega arith) (c1 .fold-at .result) (c1 .fold-at .ensures .0) (c1 .fold-at .ensures .1) in
+    let v1 = read′ 1 y (omega arith) (c2 .fold-at2 .result) (c2 .fold-at2 .ensures .0) (c2 .fold-at2 .ensures .1) in
+    let v2 = read′ 2 y (omega arith) (c3 .fold-at3 .result) (c3 .fold-at3 .ensures .0) (c3 .fold-at3 .ensures .1) in
+    let v3 = read′ 3 y (omega arith) (c .fold-at4 .result) (c .fold-at4 .ensures .0) (c .fold-at4 .ensures .1) in
+    let zero′ : 4 * y + 0 ≡ 4 * y = omega arith in
+    let s1 = more g 16 (4 * y) (4 * y + 1) _ _ (turn .loop .inv .1) (omega arith) refl (v0 ∙ ap g zero′) in
+    let s2 = more g 16 (4 * y + 1) (4 * y + 2) _ _ s1 (omega arith) (omega arith) v1 in
+    let s3 = more g 16 (4 * y + 2) (4 * y + 3) _ _ s2 (omega arith) (omega arith) v2 in
+    (omega arith, more g 16 (4 * y + 3) (4 * (y + 1)) _ _ s3 (omega arith) (omega arith) v3)
+
+returns : tie.Need-returns Inv-loop μ-loop
+unfolding foldOf
 returns c =
-    let s15 = c in
-    let s14 = s15 .before in
-    let s13 = s14 .before in
-    let s12 = s13 .before in
-    let s11 = s12 .before in
-    let s10 = s11 .before in
-    let s9 = s10 .before in
-    let s8 = s9 .before in
-    let s7 = s8 .before in
-    let s6 = s7 .before in
-    let s5 = s6 .before in
-    let s4 = s5 .before in
-    let s3 = s4 .before in
-    let s2 = s3 .before in
-    let s1 = s2 .before in
-    let s0 = s1 .before in
-    let z = s0 .before .fold-row4 .ensures in
-    let y = s0 .before .before .fold-row3 .ensures in
-    let x = s0 .before .before .before .fold-row2 .ensures in
-    let w = s0 .before .before .before .before .fold-row .ensures in
-    λ i.
-    element 0 w (record { sfits = s0 .t11 .given }) i ∷ element 1 w (record { sfits = s1 .t14 .given }) i ∷ element 2 w (record { sfits = s2 .t17 .given }) i ∷ element 3 w (record { sfits = s3 .t20 .given }) i ∷
-    element 0 x (record { sfits = s4 .t23 .given }) i ∷ element 1 x (record { sfits = s5 .t26 .given }) i ∷ element 2 x (record { sfits = s6 .t29 .given }) i ∷ element 3 x (record { sfits = s7 .t32 .given }) i ∷
-    element 0 y (record { sfits = s8 .t35 .given }) i ∷ element 1 y (record { sfits = s9 .t38 .given }) i ∷ element 2 y (record { sfits = s10 .t41 .given }) i ∷ element 3 y (record { sfits = s11 .t44 .given }) i ∷
-    element 0 z (record { sfits = s12 .t47 .given }) i ∷ element 1 z (record { sfits = s13 .t50 .given }) i ∷ element 2 z (record { sfits = s14 .t53 .given }) i ∷ element 3 z (record { sfits = s15 .t56 .given }) i ∷
-    []
+    let l = c .before .loop in
+    let s = c .before .before in
+    all (at (s .args .samples .now) (s .args .u-odd) (s .args .v-odd)) 16 (4 * l .y) _ (l .inv .1) (omega arith) (omega arith)
 
 pub fold-spec : {M : Type 1} → statement M
 fold-spec =
     tie.close
     (tie.spec
-    (λ c κs. search needs) (λ c κs. search needs) (λ c κs. search needs) (λ c κs. search needs)
-    (λ c. search needs) (λ c. search needs) (λ c. search needs) (λ c. search needs)
-    (λ c. search needs) (λ c. search needs) (λ c. search needs) (λ c. search needs)
-    (λ c. search needs) (λ c. search needs) (λ c. search needs) (λ c. search needs)
-    (λ c. search needs) (λ c. search needs) (λ c. search needs) (λ c. search needs)
+    Inv-loop
+    μ-loop
+    (λ c. (omega arith, none _ 16 _ refl))
+    (λ c κs. (c .before .before .pre, (omega arith, omega arith)))
+    (λ c. omega arith)
+    (λ c. omega arith)
+    (λ c. omega arith)
+    (λ c κs. (c .before .before .before .pre, (omega arith, omega arith)))
+    (λ c. omega arith)
+    (λ c. omega arith)
+    (λ c. omega arith)
+    (λ c. omega arith)
+    (λ c κs. (c .before .before .before .before .pre, (omega arith, omega arith)))
+    (λ c. omega arith)
+    (λ c. omega arith)
+    (λ c. omega arith)
+    (λ c. omega arith)
+    (λ c κs. (c .before .before .before .before .before .pre, (omega arith, omega arith)))
+    (λ c. omega arith)
+    (λ c. omega arith)
+    (λ c. omega arith)
+    (λ c. omega arith)
+    (λ c. omega arith)
+    (λ c. omega arith)
+    loop-again
     returns)

@@ -1,12 +1,12 @@
--- `sums::product` meets its contract. Assumes nothing.
+-- `dots::product` meets its contract. Assumes nothing.
 use mathlib.Core.Path.{_∙_}
 use lib.IntN.{_*ℤ_}
 use mir.Syntax.{w16, w32}
 use Rattle.integers.specs.Wrap.{wrap}
 use Rattle.integers.proofs.Wrap.{wrap-read}
 use Rattle.integers.proofs.Word.{widens, widened}
-use Rattle.sums.proofs.product.Statement.{statement}
-use Rattle.sums.proofs.product.Tie as tie
+use Rattle.dots.proofs.product.Statement.{statement}
+use Rattle.dots.proofs.product.Tie as tie
 
 returns : tie.Need-returns
 returns c =

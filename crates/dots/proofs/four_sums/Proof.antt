@@ -1,4 +1,4 @@
--- `sums::four_sums` meets its contract. Assumes nothing.
+-- `dots::four_sums` meets its contract. Assumes nothing.
 use Prim.Native.Nat.{ℕ, suc, _≤_, _<_, _-_, _+_, _*_}
 use mathlib.Core.List.{List, [], _∷_}
 use mathlib.Core.Path.{_≡_, sym, ap, _∙_}
@@ -12,9 +12,9 @@ use Rattle.integers.specs.Wrap.{wrap}
 use Rattle.integers.proofs.Congruence.{itself, plus}
 use Rattle.integers.proofs.Wrap.{wrap-id, wrap-read, wrap-cong, wrap-congruent}
 use Rattle.forward.specs.Sum.{sumTo}
-use Rattle.sums.specs.HalfSum.{halfSum}
-use Rattle.sums.proofs.four_sums.Statement.{statement}
-use Rattle.sums.proofs.four_sums.Tie as tie
+use Rattle.dots.specs.HalfSum.{halfSum}
+use Rattle.dots.proofs.four_sums.Statement.{statement}
+use Rattle.dots.proofs.four_sums.Tie as tie
 
 -- the first k terms of the sum for n, as a local holds them
 abbrev Summed : List ℤ → List ℤ → ℕ → ℕ → ℕ → Type 0
