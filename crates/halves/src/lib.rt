@@ -1,7 +1,8 @@
 // The basis in two halves of 16 bits, high · 40,000 + low (fdct.rs, BASIS_HIGH and BASIS_LOW, which split at 2^16).
 //
-// The sums of a fold against 16-bit halves are four and eight products an instruction. Of a 12-bit block the high sums would just
-// not fit 32 bits at a split by 2^15, nor the low ones by 2^16; by 40,000 both do (`high-small` and `low-small` of crate sums).
+// Of 16-bit halves the compiler sums eight products an instruction, where the entries themselves take one each. Of a 12-bit block
+// the high sums would just not fit 32 bits at a split by 2^15, nor the low ones by 2^16; by 40,000 both do (`high-small` and
+// `low-small` of crate sums).
 ghost use mathlib.Core.Path.{_≡_};
 ghost use Rattle.halves.specs.Halves.{highTable, lowTable};
 

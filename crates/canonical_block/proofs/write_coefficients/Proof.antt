@@ -1,4 +1,4 @@
--- `parities::write_coefficients` meets its contract. Assumes nothing.
+-- `canonical_block::write_coefficients` meets its contract. Assumes nothing.
 use Prim.Native.Nat.{ℕ, _^_, _≤_}
 use mathlib.Core.Path.{_≡_, ap, _∙_}
 use borrow.Author.Needs.{needs}
@@ -8,8 +8,8 @@ use lib.IntN.{pos, natAbs}
 use Rattle.halves.specs.Halves.{highTable, lowTable}
 use Rattle.forward.specs.Forward.{parityWritten}
 use Rattle.forward.proofs.Parity.{length-written, four-parities}
-use Rattle.parities.proofs.write_coefficients.Statement.{statement}
-use Rattle.parities.proofs.write_coefficients.Tie as tie
+use Rattle.canonical_block.proofs.write_coefficients.Statement.{statement}
+use Rattle.canonical_block.proofs.write_coefficients.Tie as tie
 
 -- what each call asks beside the length of the output: a is the state before the first
 given : (a : tie.After-write-parity-arg) →
