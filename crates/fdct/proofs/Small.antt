@@ -1,10 +1,10 @@
--- A sample less the centre, at 32 bits.
+-- A sample less the centre, at 16 bits.
 -- Assumes nothing.
 use mathlib.Core.Path.{_≡_, sym, ap, subst, _∙_}
 use Prim.Native.Nat.{ℕ, _^_, _<_, _≤_}
 use native.Mathlib.Omega.{arith}
 use lib.IntN.{ℤ, pos, natAbs, _-ℤ_}
-use mir.Syntax.{w32}
+use mir.Syntax.{w16}
 use mir.Val.{SFits, toZ, ofZ}
 use mir.ValLaws.{toZ-ofZ, toZ-pos}
 use Rattle.integers.proofs.Difference.{distance}
@@ -14,14 +14,14 @@ module _ (n : ℕ) (h : n < 256) where
   centred-size : natAbs (pos n -ℤ pos 128) ≤ 128
   centred-size = omega (arith, distance n 128)
 
-  pub cast-fits : SFits w32 (pos n)
+  pub cast-fits : SFits w16 (pos n)
   cast-fits = record { sfits = omega arith }
 
-  pub centred-fits : SFits w32 (toZ w32 n -ℤ pos 128)
-  centred-fits = rw (toZ-pos w32 n (omega arith)) (small-fits w32 (pos n -ℤ pos 128) (omega (arith, distance n 128)))
+  pub centred-fits : SFits w16 (toZ w16 n -ℤ pos 128)
+  centred-fits = rw (toZ-pos w16 n (omega arith)) (small-fits w16 (pos n -ℤ pos 128) (omega (arith, distance n 128)))
 
-  value : toZ w32 (ofZ w32 (toZ w32 n -ℤ pos 128)) ≡ pos n -ℤ pos 128
-  value = toZ-ofZ w32 _ centred-fits ∙ ap (λ (z : ℤ). z -ℤ pos 128) (toZ-pos w32 n (omega arith))
+  value : toZ w16 (ofZ w16 (toZ w16 n -ℤ pos 128)) ≡ pos n -ℤ pos 128
+  value = toZ-ofZ w16 _ centred-fits ∙ ap (λ (z : ℤ). z -ℤ pos 128) (toZ-pos w16 n (omega arith))
 
-  pub centred-value : (toZ w32 (ofZ w32 (toZ w32 n -ℤ pos 128)) ≡ pos n -ℤ pos 128) × (natAbs (toZ w32 (ofZ w32 (toZ w32 n -ℤ pos 128))) ≤ 128)
+  pub centred-value : (toZ w16 (ofZ w16 (toZ w16 n -ℤ pos 128)) ≡ pos n -ℤ pos 128) × (natAbs (toZ w16 (ofZ w16 (toZ w16 n -ℤ pos 128))) ≤ 128)
   centred-value = (value, subst (λ (z : ℤ). natAbs z ≤ 128) (sym value) centred-size)

@@ -1,15 +1,15 @@
 // The canonical forward transform with quantizing of 8-bit blocks (fdct.rs; document 01, leaves 3 and 4; T.81 A.3.3 and A.3.4).
 //
-// Samples are level-shifted by 128 (T.81 A.3.1); the transform itself, `forward`, serves samples of up to 12 bits and quantizers of
-// 16.
+// Samples are level-shifted by 128 (T.81 A.3.1); the transform itself, in crates `canonical_block` and `single`, serves samples of
+// up to 12 bits and quantizers of 16.
 ghost use mathlib.Core.Path.{_≡_};
 ghost use Prim.Native.Nat.{ℕ, _≤_};
 ghost use lib.ListN.{length, getD};
 ghost use lib.IntN.{ℤ, pos, natAbs, _-ℤ_};
 ghost use Rattle.forward.specs.Forward.{centredBlock};
 ghost use Rattle.fdct.specs.Fdct.{status, after, coefficientAnswer};
-use forward::coefficient_at;
-use forward::write_coefficients;
+use canonical_block::write_coefficients;
+use single::coefficient_at;
 
 // What `fdct_quantize_coefficient` answers: status 0 and the coefficient, or a refusal's number and 0.
 pub struct Coefficient {
@@ -18,19 +18,19 @@ pub struct Coefficient {
 }
 
 // The sample less 128.
-fn centred(sample: u8) -> i32
+fn centred(sample: u8) -> i16
     ensures { λ r. ⌜ r ≡ pos sample -ℤ pos 128 ⌝ }
     ensures { λ r. ⌜ natAbs r ≤ 128 ⌝ }
 {
-    (sample as i32) - 128
+    (sample as i16) - 128
 }
 
-fn level_shift(block: &[u8]) -> [i32; 64]
+fn level_shift(block: &[u8]) -> [i16; 64]
     requires { ⌜ length (now block) ≡ 64 ⌝ }
     ensures { λ r. ⌜ r ≡ centredBlock 128 (now (block .entry)) ⌝ }
     ensures { λ r. ⌜ ((i : ℕ) → natAbs (getD r i (pos 0)) ≤ 128) ⌝ }
 {
-    let mut samples = [0i32; 64];
+    let mut samples = [0i16; 64];
     let mut i = 0;
     while i < 64 {
         samples[i] = centred(block[i]);

@@ -13,7 +13,7 @@ use Rattle.lists.proofs.Tab.{getD-tab}
 use Rattle.basis.specs.Basis.{signed, entry, near, mirrors, basis}
 use Rattle.basis.proofs.Mirror.{mirror-x, mirror-y}
 use Rattle.forward.specs.Sum.{sumTo}
-use Rattle.forward.specs.Forward.{centred, scaledSum, centredBlock, centredSum, odd, at, folded, foldedSum}
+use Rattle.forward.specs.Forward.{centred, scaledSum, centredBlock, centredSum, odd, at, folded, foldOf, foldSum}
 use Rattle.forward.proofs.Sum.{sum-ext, sum-add, sum-rows}
 
 pairs : (a b c d e f g h : ℤ) → (((((((pos 0 +ℤ a) +ℤ b) +ℤ c) +ℤ d) +ℤ e) +ℤ f) +ℤ g) +ℤ h ≡ (((pos 0 +ℤ (a +ℤ h)) +ℤ (b +ℤ g)) +ℤ (c +ℤ f)) +ℤ (d +ℤ e)
@@ -80,12 +80,14 @@ module _ (samples : List ℤ) (n : ℕ) where
       ap (λ (z : ℤ). d x y *ℤ basis n x y +ℤ d x (7 - y) *ℤ z) (mirror-y n x y (omega arith)) ∙ gather v (d x y) (d x (7 - y)) (basis n x y)
       ∙ ap (λ (z : ℤ). (d x y +ℤ signed v (d x (7 - y))) *ℤ z) (inside n x y a b))
 
-  -- folding does not change S
-  pub fold-sum : centredSum samples n ≡ foldedSum samples n
-  unfolding centredSum foldedSum
-  fold-sum =
+  -- a term of the fold's sum
+  abbrev G : ℕ → ℤ
+  G k = folded samples u v (k % 4) (k / 4) *ℤ entry n (k / 4) (k % 4)
+
+  pub fold-terms : centredSum samples n ≡ sumTo 16 G
+  unfolding centredSum
+  fold-terms =
       let F : ℕ → ℤ = λ i. getD samples i (pos 0) *ℤ basis n (i % 8) (i / 8) in
-      let G : ℕ → ℤ = λ k. folded samples u v (k % 4) (k / 4) *ℤ entry n (k / 4) (k % 4) in
       sum-rows F 8 8
       ∙ sum-ext 8 _ _ (λ y b. sum-ext 8 _ _ (λ x a.
       let q : (y * 8 + x) / 8 ≡ y = omega arith in
@@ -98,3 +100,8 @@ module _ (samples : List ℤ) (n : ℕ) where
       let r : x ≡ (y * 4 + x) % 4 = omega arith in
       λ i. folded samples u v (r i) (q i) *ℤ entry n (q i) (r i)))
       ∙ sym (sum-rows G 4 4)
+
+  -- folding does not change S
+  pub fold-sum : centredSum samples n ≡ foldSum (foldOf samples u v) n
+  unfolding foldSum foldOf
+  fold-sum = fold-terms ∙ sum-ext 16 _ _ (λ k b. ap (λ (z : ℤ). z *ℤ entry n (k / 4) (k % 4)) (sym (getD-tab 16 (λ j. folded samples u v (j % 4) (j / 4)) (pos 0) k b)))

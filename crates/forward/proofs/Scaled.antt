@@ -1,30 +1,27 @@
 -- How large a fold and its sum are, over the largest sample; and that nothing wraps for samples of up to 12 bits.
 -- Assumes nothing.
-use mathlib.Core.Path.{_≡_, refl, sym, ap, subst, _∙_}
+use mathlib.Core.Path.{_≡_, refl, sym, _∙_}
 use mathlib.Core.Bool.{Bool, true, false}
 use mathlib.Core.List.{List}
-use Prim.Native.Nat.{ℕ, _+_, _-_, _*_, _/_, _%_, _^_, _<_, _≤_}
+use Prim.Native.Nat.{ℕ, _+_, _-_, _*_, _/_, _%_, _^_, _<_, _≤_, zero-le}
 use native.Mathlib.Nat.{le-trans, le-of-eq, mul-le-mul-left, mul-le-mul-right}
 use native.Mathlib.Omega.{arith}
 use lib.Dec.{T, leb, leb→le}
 use lib.ListN.{getD}
 use lib.IntN.{ℤ, pos, natAbs, _+ℤ_, _*ℤ_}
-use mir.Syntax.{w32, w64}
-use mir.Val.{toZ, ofZ}
-use Rattle.integers.specs.Wrap.{wrap}
-use Rattle.integers.proofs.Wrap.{wrap-id, wrap-read}
+use mir.Syntax.{w64}
+use mir.Val.{SFits}
 use Rattle.integers.proofs.Ring.{natAbs-+, natAbs-*, natAbs-neg}
 use Rattle.integers.proofs.Bound.{small-fits}
-use Rattle.lists.specs.Tab.{tab}
-use Rattle.lists.proofs.Tab.{getD-tab}
+use Rattle.lists.proofs.Tab.{getD-tab, getD-every}
 use Rattle.lists.specs.Below.{below}
 use Rattle.lists.proofs.Below.{below-at}
 use Rattle.basis.specs.Cosine.{cosines}
 use Rattle.basis.specs.Basis.{signed, negated, reduced, factor, cosineOf, entry, basisTable}
 use Rattle.forward.specs.Sum.{sumTo, total}
-use Rattle.forward.specs.Forward.{centredSum, odd, at, folded, foldedSum}
-use Rattle.forward.proofs.Sum.{sum-ext, natAbs-sum, total-le, total-scale}
-use Rattle.forward.proofs.Folding.{fold-sum}
+use Rattle.forward.specs.Forward.{centredSum, odd, at, folded, foldOf, foldSum}
+use Rattle.forward.proofs.Sum.{natAbs-sum, total-le, total-scale}
+use Rattle.forward.proofs.Folding.{fold-terms, fold-sum}
 
 -- a sum of products whose first factors are at most B
 pub natAbs-products : (n B : ℕ) (f g : ℕ → ℤ) → ((k : ℕ) → k < n → natAbs (f k) ≤ B) → natAbs (sumTo n (λ k. f k *ℤ g k)) ≤ B * total n (λ k. natAbs (g k))
@@ -55,44 +52,31 @@ module _ (c : List ℤ) (m : ℕ) (small : (i : ℕ) → natAbs (getD c i (pos 0
 
   -- S is at most 2^35 times the largest sample: 2^42 for 8 bits, 2^46 for 12
   pub scaled-size : (n : ℕ) → n < 64 → natAbs (centredSum c n) ≤ m * 2 ^ 35
-  unfolding foldedSum
   scaled-size n h =
       let f : ℕ → ℤ = λ k. folded c (odd (n % 8)) (odd (n / 8)) (k % 4) (k / 4) in
       let entries = mul-le-mul-left (4 * m) (entries-small n h) in
-      rw (fold-sum c n) (omega (arith, natAbs-products 16 (4 * m) f (λ k. entry n (k / 4) (k % 4)) (λ k b. folded-size (odd (n % 8)) (odd (n / 8)) (k % 4) (k / 4)), entries))
+      rw (fold-terms c n) (omega (arith, natAbs-products 16 (4 * m) f (λ k. entry n (k / 4) (k % 4)) (λ k b. folded-size (odd (n % 8)) (odd (n / 8)) (k % 4) (k / 4)), entries))
 
-module _ (c : List ℤ) (small : (i : ℕ) → natAbs (getD c i (pos 0)) ≤ 2 ^ 11) (n : ℕ) (h : n < 64) where
-  -- the table's place 16n + k
-  place : (k : ℕ) → k < 16 → getD basisTable (16 * n + k) (pos 0) ≡ entry n (k / 4) (k % 4)
-  unfolding basisTable
-  place k b =
-      let e : (16 * n + k) / 16 ≡ n = omega arith in
-      let r : (16 * n + k) / 4 % 4 ≡ k / 4 = omega arith in
-      let c : (16 * n + k) % 4 ≡ k % 4 = omega arith in
-      getD-tab 1024 (λ i. entry (i / 16) (i / 4 % 4) (i % 4)) (pos 0) (16 * n + k) (omega arith) ∙ (λ i. entry (e i) (r i) (c i))
+  pub fold-size : (s t : Bool) (k : ℕ) → natAbs (getD (foldOf c s t) k (pos 0)) ≤ 4 * m
+  unfolding foldOf
+  fold-size s t k = getD-every (λ (z : ℤ). natAbs z ≤ 4 * m) 16 (λ j. folded c s t (j % 4) (j / 4)) (pos 0) zero-le (λ j b. folded-size s t (j % 4) (j / 4)) k
 
-  abbrev S : ℤ
-  S = centredSum c n
+-- the table's place 16n + k
+pub place : (n : ℕ) → n < 64 → (k : ℕ) → k < 16 → getD basisTable (16 * n + k) (pos 0) ≡ entry n (k / 4) (k % 4)
+unfolding basisTable
+place n h k b =
+    let e : (16 * n + k) / 16 ≡ n = omega arith in
+    let r : (16 * n + k) / 4 % 4 ≡ k / 4 = omega arith in
+    let c : (16 * n + k) % 4 ≡ k % 4 = omega arith in
+    getD-tab 1024 (λ i. entry (i / 16) (i / 4 % 4) (i % 4)) (pos 0) (16 * n + k) (omega arith) ∙ (λ i. entry (e i) (r i) (c i))
 
-  size : natAbs S ≤ 2 ^ 46
-  size = omega (arith, scaled-size c (2 ^ 11) small n h)
+-- what the code works with: the sum of a fold of samples of up to 12 bits is S, and fits
+module _ (c : List ℤ) (small : (i : ℕ) → natAbs (getD c i (pos 0)) ≤ 2 ^ 11) (n : ℕ) (h : n < 64) (u v : Bool) (eu : u ≡ odd (n % 8)) (ev : v ≡ odd (n / 8)) where
+  pub fold-read : {f : List ℤ} → f ≡ foldOf c u v → foldSum f n ≡ centredSum c n
+  fold-read ef = (λ i. foldSum (ef i) n) ∙ (λ i. foldSum (foldOf c (eu i) (ev i)) n) ∙ sym (fold-sum c n)
 
-  -- the 16-term sum, wrapped fold and all
-  scaled : (s t : Bool) → s ≡ odd (n % 8) → t ≡ odd (n / 8)
-      → wrap w64 (sumTo 16 (λ k. getD (tab 16 (λ j. wrap w32 (folded c s t (j % 4) (j / 4)))) k (pos 0) *ℤ getD basisTable (16 * n + k) (pos 0))) ≡ S
-  unfolding foldedSum
-  scaled s t es et =
-      let F : ℕ → ℤ = λ j. wrap w32 (folded c s t (j % 4) (j / 4)) in
-      let kept : (k : ℕ) → F k ≡ folded c (odd (n % 8)) (odd (n / 8)) (k % 4) (k / 4) =
-      λ k. wrap-id w32 _ (small-fits w32 _ (omega (arith, folded-size c (2 ^ 11) small s t (k % 4) (k / 4)))) ∙ (λ i. folded c (es i) (et i) (k % 4) (k / 4)) in
-      let sum = sum-ext 16 _ _ (λ k b i. (getD-tab 16 F (pos 0) k b ∙ kept k) i *ℤ place k b i) in
-      ap (wrap w64) (sum ∙ sym (fold-sum c n)) ∙ wrap-id w64 S (small-fits w64 S (omega (arith, size)))
+  pub sum-small : natAbs (centredSum c n) ≤ 2 ^ 46
+  sum-small = omega (arith, scaled-size c (2 ^ 11) small n h)
 
-  -- as the code has it: what a call of `scaled_coefficient` gave
-  pub scaled-read : {f t : List ℤ} {r : ℤ} (u v : Bool) → u ≡ odd (n % 8) → v ≡ odd (n / 8)
-      → r ≡ wrap w64 (sumTo 16 (λ k. getD f k (pos 0) *ℤ getD t (16 * n + k) (pos 0)))
-      → f ≡ tab 16 (λ k. wrap w32 (folded c u v (k % 4) (k / 4))) → t ≡ basisTable
-      → (toZ w64 (ofZ w64 r) ≡ S) × (natAbs (toZ w64 (ofZ w64 r)) ≤ 2 ^ 46)
-  scaled-read u v eu ev er ef et =
-      let z = wrap-read w64 _ er ∙ (λ i. wrap w64 (sumTo 16 (λ k. getD (ef i) k (pos 0) *ℤ getD (et i) (16 * n + k) (pos 0)))) ∙ scaled u v eu ev in
-      (z, subst (λ (y : ℤ). natAbs y ≤ 2 ^ 46) (sym z) size)
+  pub sum-fits : SFits w64 (centredSum c n)
+  sum-fits = small-fits w64 (centredSum c n) (omega (arith, sum-small))

@@ -42,9 +42,13 @@ at c x y = getD c (8 * y + x) (pos 0)
 unfoldable pub folded : List ℤ → Bool → Bool → ℕ → ℕ → ℤ
 folded c s t x y = (at c x y +ℤ signed s (at c (7 - x) y)) +ℤ signed t (at c x (7 - y) +ℤ signed s (at c (7 - x) (7 - y)))
 
--- the 16-term sum of a fold against the table's entries of n, index 4·row + column
-unfoldable pub foldedSum : List ℤ → ℕ → ℤ
-foldedSum c n = sumTo 16 (λ k. folded c (odd (n % 8)) (odd (n / 8)) (k % 4) (k / 4) *ℤ entry n (k / 4) (k % 4))
+-- the fold of a block, index 4·row + column
+unfoldable pub foldOf : List ℤ → Bool → Bool → List ℤ
+foldOf c s t = tab 16 (λ k. folded c s t (k % 4) (k / 4))
+
+-- the 16-term sum of a fold against the table's entries of n
+unfoldable pub foldSum : List ℤ → ℕ → ℤ
+foldSum f n = sumTo 16 (λ k. getD f k (pos 0) *ℤ entry n (k / 4) (k % 4))
 
 -- n = 8v + u with these parities of u and v
 unfoldable pub ofParity : ℕ → ℕ → ℕ → Bool

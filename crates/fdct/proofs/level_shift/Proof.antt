@@ -7,7 +7,7 @@ use borrow.Author.Count.{below-none, below-more}
 use borrow.Author.Needs.{needs}
 use lib.ListN.{getD}
 use lib.IntN.{ℤ, pos, natAbs, _-ℤ_}
-use mir.Syntax.{w32}
+use mir.Syntax.{w16}
 use mir.ValLaws.{toZ-ofZ}
 use Rattle.integers.proofs.Bound.{small-fits}
 use Rattle.lists.proofs.Tab.{Filled, none, more, all, getD-every}
@@ -28,7 +28,7 @@ loop-again : tie.Need-loop-again Inv-loop μ-loop
 loop-again c =
     let l = c .before .before .before .loop in
     let r = c .centred in
-    let value = toZ-ofZ w32 (r .result) (small-fits w32 (r .result) (omega (arith, r .ensures .1))) ∙ r .ensures .0 in
+    let value = toZ-ofZ w16 (r .result) (small-fits w16 (r .result) (omega (arith, r .ensures .1))) ∙ r .ensures .0 in
     (omega arith, more _ 64 _ _ _ _ (l .inv .1) (omega arith) refl value, below-more _ _ (l .inv .2) (subst (λ (z : ℤ). natAbs z ≤ 128) (r .ensures .0) (r .ensures .1)))
 
 returns : tie.Need-returns Inv-loop μ-loop
