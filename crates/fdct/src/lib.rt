@@ -1,6 +1,6 @@
 // The canonical forward transform with quantizing of 8-bit blocks (fdct.rs; document 01, leaves 3 and 4; T.81 A.3.3 and A.3.4).
 //
-// Samples are level-shifted by 128 (T.81 A.3.1); the transform itself, in crates `canonical_block` and `single`, serves samples of
+// Samples are level-shifted by 128 (T.81 A.3.1); the transform itself, in crates `fdct_block` and `fdct_coefficient`, serves samples of
 // up to 12 bits and quantizers of 16.
 ghost use mathlib.Core.Path.{_≡_};
 ghost use Prim.Native.Nat.{ℕ, _≤_};
@@ -8,8 +8,8 @@ ghost use lib.ListN.{length, getD};
 ghost use lib.IntN.{ℤ, pos, natAbs, _-ℤ_};
 ghost use Rattle.forward.specs.Forward.{centredBlock};
 ghost use Rattle.fdct.specs.Fdct.{status, after, coefficientAnswer};
-use canonical_block::write_coefficients;
-use single::coefficient_at;
+use fdct_block::write_coefficients;
+use fdct_coefficient::coefficient_at;
 
 // What `fdct_quantize_coefficient` answers: status 0 and the coefficient, or a refusal's number and 0.
 pub struct Coefficient {
