@@ -2,14 +2,14 @@
 -- Assumes nothing.
 use mathlib.Core.Path.{_≡_, refl, ap}
 use mathlib.Core.Bool.{Bool, true, false}
-use Prim.Native.Nat.{ℕ, suc, _+_, _-_, _≤_, _<_, min}
+use Prim.Native.Nat.{ℕ, suc, _+_, _-_, _^_, _≤_, _<_, min}
 use native.Mathlib.Omega.{arith}
 use borrow.Author.Tests.{ltb-true, ltb-false, le-ltb}
 use lib.Dec.{T, ltb}
 use lib.IntN.{ℤ, pos, negsuc, natAbs, _+ℤ_}
-use lib.Signed.{ltZ, nonNeg}
+use lib.Signed.{ltZ, nonNeg, mag}
 use mir.Syntax.{Width}
-use mir.Val.{SFits, toZ, ofZ}
+use mir.Val.{SFits, hbits, toZ, ofZ}
 use mir.ValLaws.{toZ-ofZ, sfits-le}
 use Rattle.scaling.specs.Scaling.{clampTo, centered}
 
@@ -29,10 +29,16 @@ module _ (top : ℕ) where
   clamp-above (pos n) h = omega (arith, ltb-true top n h)
   clamp-above (negsuc n) h = let e : _≡_ {A = ℕ} 0 1 = cc in omega arith
 
-  pub clamp-within : (z : ℤ) → ltZ z (pos 0) ≡ false → ltZ (pos top) z ≡ false → T (nonNeg z) × (natAbs z ≤ top) × (natAbs z ≡ clampTo top z)
+  -- where nothing is clamped, and where the greater side was clamped already
+  pub clamp-none : (z : ℤ) → T (nonNeg z) → mag z ≤ top → z ≡ pos (clampTo top z)
   unfolding clampTo
-  clamp-within (pos n) g h = let k : n ≤ top = ltb-false top n h in (tt, k, omega arith)
-  clamp-within (negsuc n) g h = let e : _≡_ {A = ℕ} 0 1 = cc in absurd (omega arith)
+  clamp-none (pos n) p h = ap pos (omega arith)
+  clamp-none (negsuc n) p h = absurd p
+
+  pub clamp-twice : (more : ℕ) → top ≤ more → (z : ℤ) → clampTo top (pos (clampTo more z)) ≡ clampTo top z
+  unfolding clampTo
+  clamp-twice more h (pos n) = omega arith
+  clamp-twice more h (negsuc n) = omega arith
 
 module _ (half : ℕ) where
   pub centered-below : (z : ℤ) → ltZ z (negsuc (half - 1)) ≡ true → negsuc (half - 1) ≡ centered half z
@@ -74,8 +80,18 @@ module _ (top : ℕ) {x z : ℤ} (e : x ≡ z) where
   pub clamp-high : ltZ (pos top) x ≡ true → top ≡ clampTo top z
   clamp-high h = clamp-above top z (rw e at h)
 
-  pub clamp-kept : ltZ x (pos 0) ≡ false → ltZ (pos top) x ≡ false → T (nonNeg x) × (natAbs x ≤ top) × (natAbs x ≡ clampTo top z)
-  clamp-kept g h = rw e (clamp-within top z (rw e at g) (rw e at h))
+-- one side of the clamp: of a number that fits, the lower; of one that is not negative, the upper
+pub not-below : (z : ℤ) → ltZ z (pos 0) ≡ false → T (nonNeg z)
+not-below (pos n) h = tt
+not-below (negsuc n) h = let e : _≡_ {A = ℕ} 0 1 = cc in absurd (omega arith)
+
+pub not-above : (top : ℕ) (z : ℤ) → T (nonNeg z) → ltZ (pos top) z ≡ false → mag z ≤ top
+not-above top (pos n) p h = ltb-false top n h
+not-above top (negsuc n) p h = absurd p
+
+-- what a call that clamps gave
+pub clamp-read : (w : Width) (top : ℕ) (z : ℤ) {r : ℤ} → top < 2 ^ hbits w → r ≡ pos (clampTo top z) → toZ w (ofZ w r) ≡ pos (clampTo top z)
+clamp-read w top z h e = rw e (toZ-ofZ w _ (record { sfits = omega (arith, clamp-le top z) }))
 
 module _ (half : ℕ) {x z : ℤ} (e : x ≡ z) where
   pub centered-low : ltZ x (negsuc (half - 1)) ≡ true → negsuc (half - 1) ≡ centered half z

@@ -1,8 +1,11 @@
 // Scaling and clamping of the ISLOW inverse transforms (idct.rs; document 01, leaf 1).
 ghost use mathlib.Core.Path.{_≡_};
-ghost use Prim.Native.Nat.{_≤_};
+ghost use Prim.Native.Nat.{_-_, _^_, _≤_};
+ghost use lib.Dec.{T};
+ghost use lib.IntN.{pos};
+ghost use lib.Signed.{nonNeg};
 ghost use mir.Syntax.{w32, w64};
-ghost use Rattle.scaling.specs.Scaling.{descaled, descaleAnswer, centered, sampleU8, sampleCentered, sample12bit};
+ghost use Rattle.scaling.specs.Scaling.{descaled, descaleAnswer, clampTo, centered, sampleU8, sampleCentered, sample12bit};
 use word::wrapping_add_i32;
 use word::wrapping_add_i64;
 
@@ -56,18 +59,32 @@ pub fn islow_dc(dc: i32) -> i32
     descale_i32(dc, 3)
 }
 
-// An 8-bit sample. Two returns on the wrapped sum: the compiler makes selects of them, no jumps.
+// The two sides of the clamp, one test each: over a row the compiler makes packed selects of them.
+fn at_least_0(x: i32) -> i32
+    ensures { λ r. ⌜ r ≡ pos (clampTo (2 ^ 31 - 1) x) ⌝ }
+{
+    if x < 0 {
+        return 0;
+    }
+    x
+}
+
+fn at_most_255(x: i32) -> i32
+    requires { ⌜ T (nonNeg x) ⌝ }
+    ensures { λ r. ⌜ r ≡ pos (clampTo 255 x) ⌝ }
+{
+    if x > 255 {
+        return 255;
+    }
+    x
+}
+
+// An 8-bit sample.
 pub fn sample_u8(value: i32) -> u8
     ensures { λ r. ⌜ r ≡ sampleU8 value ⌝ }
 {
     let shifted = wrapping_add_i32(value, 128);
-    if shifted < 0 {
-        return 0;
-    }
-    if shifted > 255 {
-        return 255;
-    }
-    shifted as u8
+    at_most_255(at_least_0(shifted)) as u8
 }
 
 // An 8-bit sample centred on zero.
