@@ -15,6 +15,7 @@ ghost use Rattle.passes.specs.Passes.{pass};
 ghost use Rattle.block.specs.Block.{columnOf, columns, rowOf, firstRows};
 ghost use Rattle.block.specs.Bound.{AtMost};
 use block::load_column;
+use passes::PASS1_SHIFT;
 use passes::descale_8;
 use word::wrapping_add_i32 as add;
 use word::wrapping_mul_i32 as mul;
@@ -63,18 +64,33 @@ pub fn islow_1d_direct(p: [i32; 8]) -> [i32; 8]
     ]
 }
 
-// The columns of a block's first `rows` rows, each output scaled down by `shift` bits.
-pub fn islow_columns(input: &[i16], rows: usize, shift: u32) -> [[i32; 8]; 8]
+// The columns of a block, each output scaled down by `shift` bits. The number of rows is a constant here and below, so that the
+// compiler passes over several columns at once.
+pub fn islow_columns(input: &[i16], shift: u32) -> [[i32; 8]; 8]
     requires { ⌜ length (now input) ≡ 64 ⌝ }
-    requires { ⌜ rows ≤ 8 ⌝ }
     requires { ⌜ (1 ≤ shift) × (shift ≤ 31) ⌝ }
-    ensures { λ r. ⌜ r ≡ columns (pass w32 gains shift) (firstRows rows (now (input .entry))) ⌝ }
-    ensures { λ _. ⌜ ((u : ℕ) → u < 8 → AtMost (2 ^ 15) (columnOf (firstRows rows (now (input .entry))) u)) ⌝ }
+    ensures { λ r. ⌜ r ≡ columns (pass w32 gains shift) (now (input .entry)) ⌝ }
+    ensures { λ _. ⌜ ((u : ℕ) → u < 8 → AtMost (2 ^ 15) (columnOf (now (input .entry)) u)) ⌝ }
 {
     let mut w = [[0i32; 8]; 8];
     let mut u = 0;
     while u < 8 {
-        w[u] = descale_8(islow_1d_direct(load_column(input, rows, u)), shift);
+        w[u] = descale_8(islow_1d_direct(load_column(input, 8, u)), shift);
+        u += 1;
+    }
+    w
+}
+
+// The columns of a block's first four rows, scaled down for the 8-bit rows.
+pub fn islow_columns_top_half(input: &[i16]) -> [[i32; 8]; 8]
+    requires { ⌜ length (now input) ≡ 64 ⌝ }
+    ensures { λ r. ⌜ r ≡ columns (pass w32 gains 11) (firstRows 4 (now (input .entry))) ⌝ }
+    ensures { λ _. ⌜ ((u : ℕ) → u < 8 → AtMost (2 ^ 15) (columnOf (firstRows 4 (now (input .entry))) u)) ⌝ }
+{
+    let mut w = [[0i32; 8]; 8];
+    let mut u = 0;
+    while u < 8 {
+        w[u] = descale_8(islow_1d_direct(load_column(input, 4, u)), PASS1_SHIFT);
         u += 1;
     }
     w

@@ -25,7 +25,7 @@ pub fn islow_block_12bit(input: &[i16], output: &mut [u16]) -> u32
     if output.len() != 64 {
         return 3;
     }
-    let w = islow_columns(input, 8, PASS1_SHIFT_12);
+    let w = islow_columns(input, PASS1_SHIFT_12);
     rows_8(&w, output);
     0
 }

@@ -1,10 +1,8 @@
 -- `idct::islow_block` meets its contract. Assumes nothing.
-use mathlib.Core.Path.{_∙_, ap}
 use borrow.Author.Needs.{needs}
 use Rattle.passes.specs.Passes.{eight}
 use Rattle.block.specs.Block.{block}
 use Rattle.block.proofs.Entry.{bad-input, bad-output, done}
-use Rattle.block.proofs.Rows.{first-all}
 use Rattle.idct.proofs.islow_block.Statement.{statement}
 use Rattle.idct.proofs.islow_block.Tie as tie
 
@@ -13,7 +11,7 @@ returns c =
     let tested = c .before .before .before .before in
     let xs = tested .before .before .before .args .input .now in
     let l = tested .before .if1 .left in
-    done 64 (block eight) xs _ l (tested .if2 .left) (c .before .before .islow-block-rows .ensures ∙ ap (block eight) (first-all xs l))
+    done 64 (block eight) xs _ l (tested .if2 .left) (c .before .before .block-8x8 .ensures)
 
 pub islow-block-spec : {M : Type 1} → statement M
 islow-block-spec =

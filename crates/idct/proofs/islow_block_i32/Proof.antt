@@ -13,7 +13,7 @@ returns c =
     let tested = c .before .before .before .before in
     let xs = tested .before .before .before .args .input .now in
     let l = tested .before .if1 .left in
-    done 64 (block eight) xs _ l (tested .if2 .left) (c .before .before .islow-block-rows-i32 .ensures ∙ ap (block eight) (first-all xs l))
+    done 64 (block eight) xs _ l (tested .if2 .left) (c .before .before .block-8x8-i32 .ensures ∙ ap (block eight) (first-all xs l))
 
 pub islow-block-i32-spec : {M : Type 1} → statement M
 islow-block-i32-spec =

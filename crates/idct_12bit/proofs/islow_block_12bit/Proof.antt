@@ -1,13 +1,10 @@
 -- `idct_12bit::islow_block_12bit` meets its contract. Assumes nothing.
-use mathlib.Core.Path.{_∙_, ap}
+use mathlib.Core.Path.{_∙_}
 use borrow.Author.Needs.{needs}
-use mir.Syntax.{w64}
-use Rattle.gains.specs.Gains.{gains}
-use Rattle.passes.specs.Passes.{eight, pass}
-use Rattle.block.specs.Block.{columns, block12bit}
+use Rattle.passes.specs.Passes.{eight}
+use Rattle.block.specs.Block.{block12bit}
 use Rattle.block.proofs.Entry.{bad-input, bad-output, done}
 use Rattle.block.proofs.Exact.{columns-narrow}
-use Rattle.block.proofs.Rows.{first-all}
 use Rattle.idct_12bit.proofs.Sizes.{block-made}
 use Rattle.idct_12bit.proofs.islow_block_12bit.Statement.{statement}
 use Rattle.idct_12bit.proofs.islow_block_12bit.Tie as tie
@@ -20,7 +17,7 @@ returns c =
     let tested = made .before in
     let xs = tested .before .before .before .args .input .now in
     let l = tested .before .if1 .left in
-    done 64 (block12bit eight) xs _ l (tested .if2 .left) (block-made eight xs (made .islow-columns .ensures .0 ∙ columns-narrow _ (made .islow-columns .ensures .1) ∙ ap (columns (pass w64 gains 12)) (first-all xs l)) (stored .rows-8 .ensures))
+    done 64 (block12bit eight) xs _ l (tested .if2 .left) (block-made eight xs (made .islow-columns .ensures .0 ∙ columns-narrow _ (made .islow-columns .ensures .1)) (stored .rows-8 .ensures))
 
 pub islow-block-12bit-spec : {M : Type 1} → statement M
 islow-block-12bit-spec =

@@ -1,4 +1,4 @@
--- `idct::columns_i32` meets its contract. Assumes nothing.
+-- `idct_8x8_i32::columns_i32` meets its contract. Assumes nothing.
 use Prim.Native.Nat.{_≤_, _-_}
 use mathlib.Core.Path.{refl, _∙_, ap}
 use native.Mathlib.Omega.{arith}
@@ -6,8 +6,8 @@ use borrow.Author.Needs.{needs}
 use Rattle.lists.proofs.Tab.{Filled, none, more, all}
 use Rattle.passes.specs.Passes.{eight, columnPass}
 use Rattle.block.specs.Block.{columnOf, columns, firstRows}
-use Rattle.idct.proofs.columns_i32.Statement.{statement}
-use Rattle.idct.proofs.columns_i32.Tie as tie
+use Rattle.idct_8x8_i32.proofs.columns_i32.Statement.{statement}
+use Rattle.idct_8x8_i32.proofs.columns_i32.Tie as tie
 
 abbrev Inv-loop : tie.InvT-loop
 Inv-loop input rows w₀ u₀ w u = (u ≤ 8) × Filled (λ k. columnPass eight (columnOf (firstRows rows input) k)) 8 u w
