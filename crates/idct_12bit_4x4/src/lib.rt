@@ -1,64 +1,67 @@
-// The columns and rows of the 4×4 12-bit block (idct.rs, `islow_block_12bit_4x4`; document 01, "The inverse blocks"). Both go at
-// 64 bits: with these gains the columns do not fit 32.
+// The columns and rows of the 4×4 12-bit block (idct.rs, `islow_block_12bit_4x4`; document 01, "The inverse blocks"). The
+// columns go at 32 bits, the rows at 64.
 ghost use mathlib.Core.Path.{_≡_};
-ghost use Prim.Native.Nat.{_≤_, _<_};
+ghost use Prim.Native.Nat.{_^_};
 ghost use lib.ListN.{length};
 ghost use mir.Syntax.{w64};
 ghost use Rattle.gains.specs.Gains.{gains4};
 ghost use Rattle.scaling.specs.Scaling.{sample12bit};
 ghost use Rattle.passes.specs.Passes.{pass};
-ghost use Rattle.block.specs.Block.{columns, rowOf, rowSamples};
+ghost use Rattle.block.specs.Block.{columns, rowSamples};
+ghost use Rattle.block.specs.Bound.{AtMost};
 use block::load_column;
 use block::put_row_12bit;
+use idct_4x4::load_row_4;
+use idct_4x4::pass_4;
 use islow_i64::islow_1d_4_i64;
 use passes_12bit::PASS1_SHIFT_12_4X4;
 use passes_12bit::PASS2_SHIFT_12_4X4;
+use passes_12bit::add_each;
 use passes_12bit::descale_each;
 use passes_12bit::widen_8;
+use word::wrapping_add_i32;
 
-fn pass_4(p: [i64; 8], shift: u32) -> [i64; 4]
-    requires { ⌜ (1 ≤ shift) × (shift ≤ 63) ⌝ }
-    ensures { λ r. ⌜ r ≡ pass w64 gains4 shift p ⌝ }
+// A column of 16-bit numbers, at 32 bits. 16384·p0 is a multiple of 2^13: scaled down it is 2·p0, exactly, and what the other entries
+// make fits 32 bits.
+fn column_4(p: [i32; 8]) -> [i32; 4]
+    requires { ⌜ AtMost (2 ^ 15) p ⌝ }
+    ensures { λ r. ⌜ r ≡ pass w64 gains4 13 p ⌝ }
 {
-    let mut q = islow_1d_4_i64(p);
-    descale_each(&mut q, shift);
+    let mut rest = p;
+    rest[0] = 0;
+    let mut q = pass_4(rest, PASS1_SHIFT_12_4X4);
+    add_each(&mut q, wrapping_add_i32(p[0], p[0]));
     q
 }
 
-pub fn columns_4(input: &[i16]) -> [[i64; 4]; 8]
+pub fn columns_4(input: &[i16]) -> [[i32; 4]; 8]
     requires { ⌜ length (now input) ≡ 64 ⌝ }
     ensures { λ r. ⌜ r ≡ columns (pass w64 gains4 13) (now (input .entry)) ⌝ }
 {
-    let mut w = [[0i64; 4]; 8];
+    let mut w = [[0i32; 4]; 8];
     let mut u = 0;
     while u < 8 {
-        w[u] = pass_4(widen_8(load_column(input, 8, u)), PASS1_SHIFT_12_4X4);
+        w[u] = column_4(load_column(input, 8, u));
         u += 1;
     }
     w
 }
 
-// Row y of what is given by its columns.
-fn load_row_4(w: &[[i64; 4]; 8], y: usize) -> [i64; 8]
-    requires { ⌜ y < 4 ⌝ }
-    ensures { λ r. ⌜ r ≡ rowOf (now (w .entry)) y ⌝ }
+fn row_4(p: [i64; 8]) -> [i64; 4]
+    ensures { λ r. ⌜ r ≡ pass w64 gains4 18 p ⌝ }
 {
-    let mut p = [0i64; 8];
-    let mut u = 0;
-    while u < 8 {
-        p[u] = w[u][y];
-        u += 1;
-    }
-    p
+    let mut q = islow_1d_4_i64(p);
+    descale_each(&mut q, PASS2_SHIFT_12_4X4);
+    q
 }
 
-pub fn rows_4(w: &[[i64; 4]; 8], output: &mut [u16])
+pub fn rows_4(w: &[[i32; 4]; 8], output: &mut [u16])
     requires { ⌜ length (now output) ≡ 16 ⌝ }
     ensures { λ _. ⌜ now (output .exit) ≡ rowSamples (pass w64 gains4 18) sample12bit 4 (now (w .entry)) ⌝ }
 {
     let mut y = 0;
     while y < 4 {
-        let q = pass_4(load_row_4(w, y), PASS2_SHIFT_12_4X4);
+        let q = row_4(widen_8(load_row_4(w, y)));
         put_row_12bit(output, y * 4, &q);
         y += 1;
     }

@@ -29,7 +29,7 @@ fn ac_is_zero_4(p: &[i32; 8]) -> bool
 }
 
 // The 4-point transform, each output scaled down.
-fn pass_4(p: [i32; 8], shift: u32) -> [i32; 4]
+pub fn pass_4(p: [i32; 8], shift: u32) -> [i32; 4]
     requires { ⌜ (1 ≤ shift) × (shift ≤ 31) ⌝ }
     ensures { λ r. ⌜ r ≡ pass w32 gains4 shift p ⌝ }
 {
@@ -55,7 +55,8 @@ pub fn columns_4(input: &[i16]) -> [[i32; 4]; 8]
     w
 }
 
-fn load_row_4(w: &[[i32; 4]; 8], y: usize) -> [i32; 8]
+// Row y of what is given by its columns.
+pub fn load_row_4(w: &[[i32; 4]; 8], y: usize) -> [i32; 8]
     requires { ⌜ y < 4 ⌝ }
     ensures { λ r. ⌜ r ≡ rowOf (now (w .entry)) y ⌝ }
 {

@@ -3,10 +3,13 @@
 ghost use mathlib.Core.Path.{_≡_};
 ghost use mathlib.Core.List.{map};
 ghost use Prim.Native.Nat.{_≤_};
-ghost use mir.Syntax.{w64};
+ghost use lib.IntN.{_+ℤ_};
+ghost use mir.Syntax.{w32, w64};
+ghost use Rattle.integers.specs.Wrap.{wrap};
 ghost use Rattle.scaling.specs.Scaling.{descaled};
 use gains::CONST_BITS;
 use scaling::descale_i64;
+use word::wrapping_add_i32;
 
 // Fraction bits that the column pass keeps.
 const PASS1_BITS_12: usize = 1;
@@ -49,6 +52,17 @@ pub fn descale_each(values: &mut [i64], shift: u32)
     let mut i = 0;
     while i < values.len() {
         values[i] = descale_i64(values[i], shift);
+        i += 1;
+    }
+}
+
+// x added to each value, in place.
+pub fn add_each(values: &mut [i32], x: i32)
+    ensures { λ _. ⌜ now (values .exit) ≡ map (λ v. wrap w32 (v +ℤ x)) (now (values .entry)) ⌝ }
+{
+    let mut i = 0;
+    while i < values.len() {
+        values[i] = wrapping_add_i32(values[i], x);
         i += 1;
     }
 }

@@ -20,10 +20,10 @@ abbrev μ-loop : tie.MeasureT-loop
 
 loop-again : tie.Need-loop-again Inv-loop μ-loop
 loop-again c =
-    let load = c .before .before in
+    let load = c .before in
     let turn = load .before .before in
     let s = turn .before in
-    let value = column-made gains4 13 (s .args .input .now) (turn .loop .u) (s .pre) (load .load-column .ensures .0) (c .before .widen-8 .ensures) (c .pass-4 .ensures) in
+    let value = column-made gains4 13 (s .args .input .now) (turn .loop .u) (s .pre) (load .load-column .ensures .0) refl (c .column-4 .ensures) in
     (omega arith, more _ 8 _ _ _ _ (turn .loop .inv .1) (omega arith) refl value)
 
 returns : tie.Need-returns Inv-loop μ-loop
@@ -38,8 +38,7 @@ columns-4-spec =
     μ-loop
     (λ c. (omega arith, none _ 8 _ refl))
     (λ c κs. search needs)
-    (λ c κs. search needs)
-    (λ c κs. search needs)
+    (λ c κs. c .load-column .ensures .1)
     (λ c. omega arith)
     (λ c. omega arith)
     (λ c. omega arith)

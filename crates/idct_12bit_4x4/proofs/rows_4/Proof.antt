@@ -1,5 +1,6 @@
 -- `idct_12bit_4x4::rows_4` meets its contract. Assumes nothing.
 use Prim.Native.Nat.{_≤_, _-_}
+use mathlib.Core.Path.{_∙_}
 use native.Mathlib.Omega.{arith}
 use borrow.Author.Needs.{needs}
 use mir.Syntax.{w64}
@@ -21,9 +22,9 @@ loop-again : tie.Need-loop-again Inv-loop μ-loop
 loop-again c =
     let put = c .before .before in
     let made = put .before .before .before in
-    let load = made .before in
-    let turn = load .before .before in
-    (omega arith, row-stored gains4 18 4 _ _ _ four-rows (turn .loop .inv .1) (omega arith) (load .load-row-4 .ensures) (made .pass-4 .ensures) (put .put-row-12bit .ensures))
+    let widened = made .before in
+    let turn = widened .before .before .before in
+    (omega arith, row-stored gains4 18 4 _ _ _ four-rows (turn .loop .inv .1) (omega arith) (widened .widen-8 .ensures ∙ widened .before .load-row-4 .ensures) (made .row-4 .ensures) (put .put-row-12bit .ensures))
 
 pub rows-4-spec : {M : Type 1} → statement M
 rows-4-spec =
@@ -32,6 +33,7 @@ rows-4-spec =
     Inv-loop
     μ-loop
     (λ c. (omega arith, rows-none (pass w64 gains4 18) sample12bit 4 (c .before .args .w .now) _ (omega arith)))
+    (λ c κs. search needs)
     (λ c κs. search needs)
     (λ c κs. search needs)
     (λ c. omega arith)
