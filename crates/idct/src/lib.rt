@@ -1,13 +1,16 @@
 // The 8-bit 8×8 ISLOW inverse blocks (idct.rs, `islow_block` and `islow_block_top_half`; document 01, "The inverse blocks").
 //
-// Columns first, then rows, each row's samples stored as it is done. Each entry answers its refusal number, 1 for an input not of
-// 64 places, then 3 for an output not of 64, and then leaves the output as it was; or 0, and the output holds the samples.
+// Columns first, then rows. Each entry answers its refusal number, 1 for an input not of 64 places, then 3 for an output not of 64,
+// and then leaves the output as it was; or 0, and the output holds the samples.
 ghost use mathlib.Core.Path.{_≡_};
 ghost use Rattle.passes.specs.Passes.{eight};
 ghost use Rattle.block.specs.Block.{block, firstRows, status, after};
-use idct_8x8::block_8x8;
-use idct_8x8::block_8x8_top_half;
-use idct_8x8_i32::block_8x8_i32;
+use columns::islow_columns;
+use columns::islow_columns_top_half;
+use columns_i32::columns_i32;
+use columns_i32::columns_i32_top_half;
+use idct_8x8::rows;
+use passes::PASS1_SHIFT;
 
 pub fn islow_block(input: &[i16], output: &mut [u8]) -> u32
     ensures { λ r. ⌜ r ≡ status 64 (now (input .entry)) (now (output .entry)) ⌝ }
@@ -19,7 +22,8 @@ pub fn islow_block(input: &[i16], output: &mut [u8]) -> u32
     if output.len() != 64 {
         return 3;
     }
-    block_8x8(input, output);
+    let w = islow_columns(input, PASS1_SHIFT);
+    rows(&w, output);
     0
 }
 
@@ -33,7 +37,8 @@ pub fn islow_block_i32(input: &[i32], output: &mut [u8]) -> u32
     if output.len() != 64 {
         return 3;
     }
-    block_8x8_i32(input, 8, output);
+    let w = columns_i32(input);
+    rows(&w, output);
     0
 }
 
@@ -48,7 +53,8 @@ pub fn islow_block_top_half(input: &[i16], output: &mut [u8]) -> u32
     if output.len() != 64 {
         return 3;
     }
-    block_8x8_top_half(input, output);
+    let w = islow_columns_top_half(input);
+    rows(&w, output);
     0
 }
 
@@ -62,6 +68,7 @@ pub fn islow_block_top_half_i32(input: &[i32], output: &mut [u8]) -> u32
     if output.len() != 64 {
         return 3;
     }
-    block_8x8_i32(input, 4, output);
+    let w = columns_i32_top_half(input);
+    rows(&w, output);
     0
 }

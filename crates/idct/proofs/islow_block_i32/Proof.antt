@@ -1,19 +1,20 @@
 -- `idct::islow_block_i32` meets its contract. Assumes nothing.
-use mathlib.Core.Path.{_∙_, ap}
 use borrow.Author.Needs.{needs}
 use Rattle.passes.specs.Passes.{eight}
 use Rattle.block.specs.Block.{block}
 use Rattle.block.proofs.Entry.{bad-input, bad-output, done}
-use Rattle.block.proofs.Rows.{first-all}
+use Rattle.block.proofs.Rows.{block-read}
 use Rattle.idct.proofs.islow_block_i32.Statement.{statement}
 use Rattle.idct.proofs.islow_block_i32.Tie as tie
 
 returns : tie.Need-returns-3
+unfolding eight
 returns c =
-    let tested = c .before .before .before .before in
+    let stored = c .before .before in
+    let made = stored .before .before .before in
+    let tested = made .before in
     let xs = tested .before .before .before .args .input .now in
-    let l = tested .before .if1 .left in
-    done 64 (block eight) xs _ l (tested .if2 .left) (c .before .before .block-8x8-i32 .ensures ∙ ap (block eight) (first-all xs l))
+    done 64 (block eight) xs _ (tested .before .if1 .left) (tested .if2 .left) (block-read eight xs (made .columns-i32 .ensures) (stored .rows .ensures))
 
 pub islow-block-i32-spec : {M : Type 1} → statement M
 islow-block-i32-spec =
@@ -21,6 +22,7 @@ islow-block-i32-spec =
     (tie.spec
     (λ c. bad-input 64 (block eight) _ _ (c .if1 .taken))
     (λ c. bad-output 64 (block eight) _ _ (c .before .if1 .left) (c .if2 .taken))
+    (λ c κs. search needs)
     (λ c κs. search needs)
     (λ c. search needs)
     returns)

@@ -1,4 +1,4 @@
--- `idct_8x8_i32::columns_i32` meets its contract. Assumes nothing.
+-- `columns_i32::any_columns` meets its contract. Assumes nothing.
 use Prim.Native.Nat.{_≤_, _-_}
 use mathlib.Core.Path.{refl, _∙_, ap}
 use native.Mathlib.Omega.{arith}
@@ -6,8 +6,8 @@ use borrow.Author.Needs.{needs}
 use Rattle.lists.proofs.Tab.{Filled, none, more, all}
 use Rattle.passes.specs.Passes.{eight, columnPass}
 use Rattle.block.specs.Block.{columnOf, columns, firstRows}
-use Rattle.idct_8x8_i32.proofs.columns_i32.Statement.{statement}
-use Rattle.idct_8x8_i32.proofs.columns_i32.Tie as tie
+use Rattle.columns_i32.proofs.any_columns.Statement.{statement}
+use Rattle.columns_i32.proofs.any_columns.Tie as tie
 
 abbrev Inv-loop : tie.InvT-loop
 Inv-loop input rows w₀ u₀ w u = (u ≤ 8) × Filled (λ k. columnPass eight (columnOf (firstRows rows input) k)) 8 u w
@@ -19,8 +19,8 @@ returns : tie.Need-returns Inv-loop μ-loop
 unfolding columns
 returns c = all _ 8 _ _ (c .before .loop .inv .1) (omega arith) (omega arith)
 
-pub columns-i32-spec : {M : Type 1} → statement M
-columns-i32-spec =
+pub any-columns-spec : {M : Type 1} → statement M
+any-columns-spec =
     tie.close
     (tie.spec
     Inv-loop

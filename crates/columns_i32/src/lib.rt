@@ -1,0 +1,105 @@
+// The columns of the 8-bit 8×8 block of 32-bit numbers (idct.rs; document 01, "The inverse blocks").
+//
+// Numbers that fit 16 bits, as the products of a JPEG file's coefficients and divisors nearly always do, go by direct products, as
+// those of 16-bit input do. Of others the zero shortcut is not the full pass where that wraps.
+ghost use mathlib.Core.Path.{_≡_};
+ghost use Prim.Native.Nat.{ℕ, _*_, _≤_, _<_, _^_};
+ghost use lib.ListN.{length, getD};
+ghost use lib.IntN.{pos};
+ghost use lib.Signed.{mag};
+ghost use Rattle.passes.specs.Passes.{eight, columnPass};
+ghost use Rattle.block.specs.Block.{columnOf, columns, firstRows};
+ghost use Rattle.block.specs.Bound.{AtMost};
+use block::load_column_i32;
+use columns::islow_1d_direct;
+use narrow::all_fit;
+use narrow::narrow;
+use passes::PASS1_SHIFT;
+use passes::descale_8;
+use passes::islow_column;
+
+// `load_column_i32` of numbers that fit.
+fn load_narrow_column(input: &[i32], rows: usize, u: usize) -> [i32; 8]
+    requires { ⌜ length (now input) ≡ 64 ⌝ }
+    requires { ⌜ (rows ≤ 8) × (u < 8) ⌝ }
+    requires { ⌜ ((k : ℕ) → k < 8 * rows → mag (getD (now input) k (pos 0)) < 2 ^ 15) ⌝ }
+    ensures { λ r. ⌜ r ≡ columnOf (firstRows rows (now (input .entry))) u ⌝ }
+    ensures { λ r. ⌜ AtMost (2 ^ 15) r ⌝ }
+{
+    let mut p = [0i32; 8];
+    let mut v = 0;
+    while v < rows {
+        p[v] = narrow(input[8 * v + u]);
+        v += 1;
+    }
+    p
+}
+
+fn narrow_columns(input: &[i32]) -> [[i32; 8]; 8]
+    requires { ⌜ length (now input) ≡ 64 ⌝ }
+    requires { ⌜ ((k : ℕ) → k < 64 → mag (getD (now input) k (pos 0)) < 2 ^ 15) ⌝ }
+    ensures { λ r. ⌜ r ≡ columns (columnPass eight) (firstRows 8 (now (input .entry))) ⌝ }
+{
+    let mut w = [[0i32; 8]; 8];
+    let mut u = 0;
+    while u < 8 {
+        w[u] = descale_8(
+            islow_1d_direct(load_narrow_column(input, 8, u)),
+            PASS1_SHIFT,
+        );
+        u += 1;
+    }
+    w
+}
+
+fn narrow_columns_top_half(input: &[i32]) -> [[i32; 8]; 8]
+    requires { ⌜ length (now input) ≡ 64 ⌝ }
+    requires { ⌜ ((k : ℕ) → k < 32 → mag (getD (now input) k (pos 0)) < 2 ^ 15) ⌝ }
+    ensures { λ r. ⌜ r ≡ columns (columnPass eight) (firstRows 4 (now (input .entry))) ⌝ }
+{
+    let mut w = [[0i32; 8]; 8];
+    let mut u = 0;
+    while u < 8 {
+        w[u] = descale_8(
+            islow_1d_direct(load_narrow_column(input, 4, u)),
+            PASS1_SHIFT,
+        );
+        u += 1;
+    }
+    w
+}
+
+fn any_columns(input: &[i32], rows: usize) -> [[i32; 8]; 8]
+    requires { ⌜ length (now input) ≡ 64 ⌝ }
+    requires { ⌜ rows ≤ 8 ⌝ }
+    ensures { λ r. ⌜ r ≡ columns (columnPass eight) (firstRows rows (now (input .entry))) ⌝ }
+{
+    let mut w = [[0i32; 8]; 8];
+    let mut u = 0;
+    while u < 8 {
+        w[u] = islow_column(load_column_i32(input, rows, u));
+        u += 1;
+    }
+    w
+}
+
+pub fn columns_i32(input: &[i32]) -> [[i32; 8]; 8]
+    requires { ⌜ length (now input) ≡ 64 ⌝ }
+    ensures { λ r. ⌜ r ≡ columns (columnPass eight) (now (input .entry)) ⌝ }
+{
+    if all_fit(input, 64) {
+        return narrow_columns(input);
+    }
+    any_columns(input, 8)
+}
+
+// Of the first four rows; the others are not read.
+pub fn columns_i32_top_half(input: &[i32]) -> [[i32; 8]; 8]
+    requires { ⌜ length (now input) ≡ 64 ⌝ }
+    ensures { λ r. ⌜ r ≡ columns (columnPass eight) (firstRows 4 (now (input .entry))) ⌝ }
+{
+    if all_fit(input, 32) {
+        return narrow_columns_top_half(input);
+    }
+    any_columns(input, 4)
+}
