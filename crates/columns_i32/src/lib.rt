@@ -12,7 +12,6 @@ ghost use Rattle.block.specs.Block.{columnOf, columns, firstRows};
 ghost use Rattle.block.specs.Bound.{AtMost};
 use block::load_column_i32;
 use columns::islow_1d_direct;
-use narrow::all_fit;
 use narrow::narrow;
 use passes::PASS1_SHIFT;
 use passes::descale_8;
@@ -35,10 +34,10 @@ fn load_narrow_column(input: &[i32], rows: usize, u: usize) -> [i32; 8]
     p
 }
 
-fn narrow_columns(input: &[i32]) -> [[i32; 8]; 8]
+pub fn narrow_columns(input: &[i32]) -> [[i32; 8]; 8]
     requires { ⌜ length (now input) ≡ 64 ⌝ }
     requires { ⌜ ((k : ℕ) → k < 64 → mag (getD (now input) k (pos 0)) < 2 ^ 15) ⌝ }
-    ensures { λ r. ⌜ r ≡ columns (columnPass eight) (firstRows 8 (now (input .entry))) ⌝ }
+    ensures { λ r. ⌜ r ≡ columns (columnPass eight) (now (input .entry)) ⌝ }
 {
     let mut w = [[0i32; 8]; 8];
     let mut u = 0;
@@ -52,7 +51,7 @@ fn narrow_columns(input: &[i32]) -> [[i32; 8]; 8]
     w
 }
 
-fn narrow_columns_top_half(input: &[i32]) -> [[i32; 8]; 8]
+pub fn narrow_columns_top_half(input: &[i32]) -> [[i32; 8]; 8]
     requires { ⌜ length (now input) ≡ 64 ⌝ }
     requires { ⌜ ((k : ℕ) → k < 32 → mag (getD (now input) k (pos 0)) < 2 ^ 15) ⌝ }
     ensures { λ r. ⌜ r ≡ columns (columnPass eight) (firstRows 4 (now (input .entry))) ⌝ }
@@ -69,7 +68,7 @@ fn narrow_columns_top_half(input: &[i32]) -> [[i32; 8]; 8]
     w
 }
 
-fn any_columns(input: &[i32], rows: usize) -> [[i32; 8]; 8]
+pub fn any_columns(input: &[i32], rows: usize) -> [[i32; 8]; 8]
     requires { ⌜ length (now input) ≡ 64 ⌝ }
     requires { ⌜ rows ≤ 8 ⌝ }
     ensures { λ r. ⌜ r ≡ columns (columnPass eight) (firstRows rows (now (input .entry))) ⌝ }
@@ -81,25 +80,4 @@ fn any_columns(input: &[i32], rows: usize) -> [[i32; 8]; 8]
         u += 1;
     }
     w
-}
-
-pub fn columns_i32(input: &[i32]) -> [[i32; 8]; 8]
-    requires { ⌜ length (now input) ≡ 64 ⌝ }
-    ensures { λ r. ⌜ r ≡ columns (columnPass eight) (now (input .entry)) ⌝ }
-{
-    if all_fit(input, 64) {
-        return narrow_columns(input);
-    }
-    any_columns(input, 8)
-}
-
-// Of the first four rows; the others are not read.
-pub fn columns_i32_top_half(input: &[i32]) -> [[i32; 8]; 8]
-    requires { ⌜ length (now input) ≡ 64 ⌝ }
-    ensures { λ r. ⌜ r ≡ columns (columnPass eight) (firstRows 4 (now (input .entry))) ⌝ }
-{
-    if all_fit(input, 32) {
-        return narrow_columns_top_half(input);
-    }
-    any_columns(input, 4)
 }

@@ -7,9 +7,11 @@ ghost use Rattle.passes.specs.Passes.{eight};
 ghost use Rattle.block.specs.Block.{block, firstRows, status, after};
 use columns::islow_columns;
 use columns::islow_columns_top_half;
-use columns_i32::columns_i32;
-use columns_i32::columns_i32_top_half;
+use columns_i32::any_columns;
+use columns_i32::narrow_columns;
+use columns_i32::narrow_columns_top_half;
 use idct_8x8::rows;
+use narrow::all_fit;
 use passes::PASS1_SHIFT;
 
 pub fn islow_block(input: &[i16], output: &mut [u8]) -> u32
@@ -37,7 +39,12 @@ pub fn islow_block_i32(input: &[i32], output: &mut [u8]) -> u32
     if output.len() != 64 {
         return 3;
     }
-    let w = columns_i32(input);
+    if all_fit(input, 64) {
+        let w = narrow_columns(input);
+        rows(&w, output);
+        return 0;
+    }
+    let w = any_columns(input, 8);
     rows(&w, output);
     0
 }
@@ -68,7 +75,12 @@ pub fn islow_block_top_half_i32(input: &[i32], output: &mut [u8]) -> u32
     if output.len() != 64 {
         return 3;
     }
-    let w = columns_i32_top_half(input);
+    if all_fit(input, 32) {
+        let w = narrow_columns_top_half(input);
+        rows(&w, output);
+        return 0;
+    }
+    let w = any_columns(input, 4);
     rows(&w, output);
     0
 }

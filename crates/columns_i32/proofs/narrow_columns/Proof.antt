@@ -4,7 +4,7 @@ use mathlib.Core.Path.{refl, _∙_}
 use native.Mathlib.Omega.{arith}
 use borrow.Author.Needs.{needs}
 use Rattle.block.proofs.Column.{columns-eight}
-use Rattle.columns.proofs.Columns.{Before, columns-none, columns-more, columns-all}
+use Rattle.columns.proofs.Columns.{Before, columns-none, columns-more, columns-all, columns-whole}
 use Rattle.columns_i32.proofs.narrow_columns.Statement.{statement}
 use Rattle.columns_i32.proofs.narrow_columns.Tie as tie
 
@@ -22,7 +22,7 @@ loop-again c =
 
 returns : tie.Need-returns Inv-loop μ-loop
 returns c =
-    let made = columns-all _ 8 _ _ _ (c .before .loop .inv .1) (omega arith) (omega arith) in
+    let made = columns-whole _ _ _ (c .before .before .pre .0) (columns-all _ 8 _ _ _ (c .before .loop .inv .1) (omega arith) (omega arith)) in
     made .0 ∙ columns-eight _ (made .1)
 
 pub narrow-columns-spec : {M : Type 1} → statement M

@@ -1,20 +1,37 @@
 -- `idct::islow_block_i32` meets its contract. Assumes nothing.
+use mathlib.Core.Path.{ap, _∙_}
 use borrow.Author.Needs.{needs}
-use Rattle.passes.specs.Passes.{eight}
-use Rattle.block.specs.Block.{block}
+use Rattle.passes.specs.Passes.{eight, columnPass}
+use Rattle.block.specs.Block.{columns, block}
 use Rattle.block.proofs.Entry.{bad-input, bad-output, done}
-use Rattle.block.proofs.Rows.{block-read}
+use Rattle.block.proofs.Rows.{first-all, block-read}
+use Rattle.narrow.proofs.Each.{each-fits, said}
 use Rattle.idct.proofs.islow_block_i32.Statement.{statement}
 use Rattle.idct.proofs.islow_block_i32.Tie as tie
 
-returns : tie.Need-returns-3
+narrow-columns-requires : tie.Need-narrow-columns-requires
+narrow-columns-requires c κs =
+    let tested = c .before .before in
+    (tested .before .if1 .left, each-fits (tested .before .before .before .args .input .now) 64 (said (c .before .all-fit .ensures) (c .if3 .taken)))
+
+returns-narrow : tie.Need-returns-3
 unfolding eight
-returns c =
+returns-narrow c =
     let stored = c .before .before in
     let made = stored .before .before .before in
-    let tested = made .before in
+    let tested = made .before .before .before in
     let xs = tested .before .before .before .args .input .now in
-    done 64 (block eight) xs _ (tested .before .if1 .left) (tested .if2 .left) (block-read eight xs (made .columns-i32 .ensures) (stored .rows .ensures))
+    done 64 (block eight) xs _ (tested .before .if1 .left) (tested .if2 .left) (block-read eight xs (made .narrow-columns .ensures) (stored .rows .ensures))
+
+returns-any : tie.Need-returns-4
+unfolding eight
+returns-any c =
+    let stored = c .before .before in
+    let made = stored .before .before .before in
+    let tested = made .before .before .before in
+    let xs = tested .before .before .before .args .input .now in
+    let l = tested .before .if1 .left in
+    done 64 (block eight) xs _ l (tested .if2 .left) (block-read eight xs (made .any-columns .ensures ∙ ap (columns (columnPass eight)) (first-all xs l)) (stored .rows2 .ensures))
 
 pub islow-block-i32-spec : {M : Type 1} → statement M
 islow-block-i32-spec =
@@ -23,6 +40,11 @@ islow-block-i32-spec =
     (λ c. bad-input 64 (block eight) _ _ (c .if1 .taken))
     (λ c. bad-output 64 (block eight) _ _ (c .before .if1 .left) (c .if2 .taken))
     (λ c κs. search needs)
+    narrow-columns-requires
     (λ c κs. search needs)
     (λ c. search needs)
-    returns)
+    returns-narrow
+    (λ c κs. search needs)
+    (λ c κs. search needs)
+    (λ c. search needs)
+    returns-any)
