@@ -4,10 +4,11 @@ ghost use mathlib.Core.Path.{_≡_};
 ghost use Prim.Native.Nat.{_^_};
 ghost use lib.ListN.{length};
 ghost use mir.Syntax.{w64};
+ghost use Rattle.lists.specs.Tab.{tab};
 ghost use Rattle.gains.specs.Gains.{gains4};
 ghost use Rattle.scaling.specs.Scaling.{sample12bit};
 ghost use Rattle.passes.specs.Passes.{pass};
-ghost use Rattle.block.specs.Block.{columns, rowSamples};
+ghost use Rattle.block.specs.Block.{columns, rowOf, rowSamples};
 ghost use Rattle.block.specs.Bound.{AtMost};
 use block::load_column;
 use block::put_row_12bit;
@@ -55,14 +56,27 @@ fn row_4(p: [i64; 8]) -> [i64; 4]
     q
 }
 
+// The four rows after their pass: all before any sample is stored, so that no store stands between them.
+fn pass_rows_4(w: &[[i32; 4]; 8]) -> [[i64; 4]; 4]
+    ensures { λ r. ⌜ r ≡ tab 4 (λ y. pass w64 gains4 18 (rowOf (now (w .entry)) y)) ⌝ }
+{
+    let mut r = [[0i64; 4]; 4];
+    let mut y = 0;
+    while y < 4 {
+        r[y] = row_4(widen_8(load_row_4(w, y)));
+        y += 1;
+    }
+    r
+}
+
 pub fn rows_4(w: &[[i32; 4]; 8], output: &mut [u16])
     requires { ⌜ length (now output) ≡ 16 ⌝ }
     ensures { λ _. ⌜ now (output .exit) ≡ rowSamples (pass w64 gains4 18) sample12bit 4 (now (w .entry)) ⌝ }
 {
+    let r = pass_rows_4(w);
     let mut y = 0;
     while y < 4 {
-        let q = row_4(widen_8(load_row_4(w, y)));
-        put_row_12bit(output, y * 4, &q);
+        put_row_12bit(output, y * 4, &r[y]);
         y += 1;
     }
 }

@@ -1,13 +1,15 @@
 -- What the three sizes share: a pass, a column and a row at 64 bits, over the gains, the shift and the side.
 -- Assumes nothing.
 use mathlib.Core.Path.{_≡_, sym, ap, _∙_, subst}
-use mathlib.Core.List.{List, map}
+use mathlib.Core.List.{List, [], map}
 use Prim.Native.Nat.{ℕ, _+_, _*_, _<_}
-use lib.ListN.{length}
+use lib.ListN.{length, getD}
 use lib.Seq.{paste}
 use lib.IntN.{ℤ}
 use mir.Syntax.{w64}
 use Rattle.integers.specs.Linear.{transform}
+use Rattle.lists.specs.Tab.{tab}
+use Rattle.lists.proofs.Tab.{getD-tab}
 use Rattle.scaling.specs.Scaling.{descaled, sample12bit}
 use Rattle.passes.specs.Passes.{pass}
 use Rattle.block.specs.Block.{columnOf, rowOf, firstRows}
@@ -30,3 +32,11 @@ module _ (rows : List (List ℤ)) (s : ℕ) where
   row-stored n cols y out {p} {q} l h b e f g =
       subst (Stored (pass w64 rows s) sample12bit n cols (y + 1)) (sym g)
       (rows-more (pass w64 rows s) sample12bit n cols y out q h b (f ∙ ap (pass w64 rows s) e) (ap length f ∙ length-pass w64 rows s p ∙ l))
+
+  -- rows that are made before any is stored: row y, and how long it is
+  module _ (n : ℕ) (cols : List (List ℤ)) {rs : List (List ℤ)} (l : length rows ≡ n) (e : rs ≡ tab n (λ y. pass w64 rows s (rowOf cols y))) (y : ℕ) (b : y < n) where
+    pub row-made : getD rs y [] ≡ pass w64 rows s (rowOf cols y)
+    row-made = ap (λ (t : List (List ℤ)). getD t y []) e ∙ getD-tab n (λ y. pass w64 rows s (rowOf cols y)) [] y b
+
+    pub row-long : length (getD rs y []) ≡ n
+    row-long = ap length row-made ∙ length-pass w64 rows s (rowOf cols y) ∙ l
