@@ -67,7 +67,7 @@ pub fn islow_block_top_half(input: &[i16], output: &mut [u8]) -> u32
 
 pub fn islow_block_top_half_i32(input: &[i32], output: &mut [u8]) -> u32
     ensures { λ r. ⌜ r ≡ status 64 (now (input .entry)) (now (output .entry)) ⌝ }
-    ensures { λ _. ⌜ now (output .exit) ≡ after 64 (λ xs. block eight (firstRows 4 xs)) (now (input .entry)) (now (output .entry)) ⌝ }
+    ensures { λ _. ⌜ now (output .exit) ≡ after 64 (λ wide. block eight (firstRows 4 wide)) (now (input .entry)) (now (output .entry)) ⌝ }
 {
     if input.len() != 64 {
         return 1;

@@ -2,7 +2,6 @@
 use mathlib.Core.Path.{_∙_}
 use borrow.Author.Needs.{needs}
 use Rattle.passes.specs.Passes.{eight}
-use Rattle.block.specs.Block.{block}
 use Rattle.block.proofs.Column.{columns-eight}
 use Rattle.block.proofs.Entry.{bad-input, bad-output, done}
 use Rattle.block.proofs.Rows.{block-read}
@@ -16,14 +15,14 @@ returns c =
     let made = stored .before .before .before in
     let tested = made .before in
     let xs = tested .before .before .before .args .input .now in
-    done 64 (block eight) xs _ (tested .before .if1 .left) (tested .if2 .left) (block-read eight xs (made .islow-columns .ensures .0 ∙ columns-eight _ (made .islow-columns .ensures .1)) (stored .rows .ensures))
+    done 64 _ xs _ (tested .before .if1 .left) (tested .if2 .left) (block-read eight xs (made .islow-columns .ensures .0 ∙ columns-eight _ (made .islow-columns .ensures .1)) (stored .rows .ensures))
 
 pub islow-block-spec : {M : Type 1} → statement M
 islow-block-spec =
     tie.close
     (tie.spec
-    (λ c. bad-input 64 (block eight) _ _ (c .if1 .taken))
-    (λ c. bad-output 64 (block eight) _ _ (c .before .if1 .left) (c .if2 .taken))
+    (λ c. bad-input 64 _ _ _ (c .if1 .taken))
+    (λ c. bad-output 64 _ _ _ (c .before .if1 .left) (c .if2 .taken))
     (λ c κs. search needs)
     (λ c κs. search needs)
     (λ c. search needs)

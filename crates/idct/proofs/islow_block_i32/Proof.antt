@@ -2,7 +2,7 @@
 use mathlib.Core.Path.{ap, _∙_}
 use borrow.Author.Needs.{needs}
 use Rattle.passes.specs.Passes.{eight, columnPass}
-use Rattle.block.specs.Block.{columns, block}
+use Rattle.block.specs.Block.{columns}
 use Rattle.block.proofs.Entry.{bad-input, bad-output, done}
 use Rattle.block.proofs.Rows.{first-all, block-read}
 use Rattle.narrow.proofs.Each.{each-fits, said}
@@ -21,7 +21,7 @@ returns-narrow c =
     let made = stored .before .before .before in
     let tested = made .before .before .before in
     let xs = tested .before .before .before .args .input .now in
-    done 64 (block eight) xs _ (tested .before .if1 .left) (tested .if2 .left) (block-read eight xs (made .narrow-columns .ensures) (stored .rows .ensures))
+    done 64 _ xs _ (tested .before .if1 .left) (tested .if2 .left) (block-read eight xs (made .narrow-columns .ensures) (stored .rows .ensures))
 
 returns-any : tie.Need-returns-4
 unfolding eight
@@ -31,14 +31,14 @@ returns-any c =
     let tested = made .before .before .before in
     let xs = tested .before .before .before .args .input .now in
     let l = tested .before .if1 .left in
-    done 64 (block eight) xs _ l (tested .if2 .left) (block-read eight xs (made .any-columns .ensures ∙ ap (columns (columnPass eight)) (first-all xs l)) (stored .rows2 .ensures))
+    done 64 _ xs _ l (tested .if2 .left) (block-read eight xs (made .any-columns .ensures ∙ ap (columns (columnPass eight)) (first-all xs l)) (stored .rows2 .ensures))
 
 pub islow-block-i32-spec : {M : Type 1} → statement M
 islow-block-i32-spec =
     tie.close
     (tie.spec
-    (λ c. bad-input 64 (block eight) _ _ (c .if1 .taken))
-    (λ c. bad-output 64 (block eight) _ _ (c .before .if1 .left) (c .if2 .taken))
+    (λ c. bad-input 64 _ _ _ (c .if1 .taken))
+    (λ c. bad-output 64 _ _ _ (c .before .if1 .left) (c .if2 .taken))
     (λ c κs. search needs)
     narrow-columns-requires
     (λ c κs. search needs)

@@ -1,7 +1,7 @@
 -- `idct::islow_block_top_half_i32` meets its contract. Assumes nothing.
 use borrow.Author.Needs.{needs}
 use Rattle.passes.specs.Passes.{eight}
-use Rattle.block.specs.Block.{block, firstRows}
+use Rattle.block.specs.Block.{firstRows}
 use Rattle.block.proofs.Entry.{bad-input, bad-output, done}
 use Rattle.block.proofs.Rows.{block-read}
 use Rattle.narrow.proofs.Each.{each-fits, said}
@@ -20,7 +20,7 @@ returns-narrow c =
     let made = stored .before .before .before in
     let tested = made .before .before .before in
     let xs = tested .before .before .before .args .input .now in
-    done 64 (λ xs. block eight (firstRows 4 xs)) xs _ (tested .before .if1 .left) (tested .if2 .left) (block-read eight (firstRows 4 xs) (made .narrow-columns-top-half .ensures) (stored .rows .ensures))
+    done 64 _ xs _ (tested .before .if1 .left) (tested .if2 .left) (block-read eight (firstRows 4 xs) (made .narrow-columns-top-half .ensures) (stored .rows .ensures))
 
 returns-any : tie.Need-returns-4
 unfolding eight
@@ -30,14 +30,14 @@ returns-any c =
     let tested = made .before .before .before in
     let xs = tested .before .before .before .args .input .now in
     let l = tested .before .if1 .left in
-    done 64 (λ xs. block eight (firstRows 4 xs)) xs _ l (tested .if2 .left) (block-read eight (firstRows 4 xs) (made .any-columns .ensures) (stored .rows2 .ensures))
+    done 64 _ xs _ l (tested .if2 .left) (block-read eight (firstRows 4 xs) (made .any-columns .ensures) (stored .rows2 .ensures))
 
 pub islow-block-top-half-i32-spec : {M : Type 1} → statement M
 islow-block-top-half-i32-spec =
     tie.close
     (tie.spec
-    (λ c. bad-input 64 (λ xs. block eight (firstRows 4 xs)) _ _ (c .if1 .taken))
-    (λ c. bad-output 64 (λ xs. block eight (firstRows 4 xs)) _ _ (c .before .if1 .left) (c .if2 .taken))
+    (λ c. bad-input 64 _ _ _ (c .if1 .taken))
+    (λ c. bad-output 64 _ _ _ (c .before .if1 .left) (c .if2 .taken))
     (λ c κs. search needs)
     narrow-columns-top-half-requires
     (λ c κs. search needs)
