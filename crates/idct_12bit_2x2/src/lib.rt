@@ -1,20 +1,22 @@
 // The columns and rows of the 2×2 12-bit block (idct.rs, `islow_block_12bit_2x2`; document 01, "The inverse blocks"). Both go at
-// 64 bits: with these gains the columns do not fit 32.
+// 64 bits: with these gains the columns do not fit 32. What the rows give does.
 ghost use mathlib.Core.Path.{_≡_};
-ghost use Prim.Native.Nat.{_≤_, _<_};
-ghost use lib.ListN.{length};
+ghost use mathlib.Core.List.{[]};
+ghost use Prim.Native.Nat.{ℕ, _≤_, _<_, _^_};
+ghost use lib.ListN.{length, getD};
 ghost use mir.Syntax.{w64};
 ghost use Rattle.gains.specs.Gains.{gains2};
 ghost use Rattle.scaling.specs.Scaling.{sample12bit};
 ghost use Rattle.passes.specs.Passes.{pass};
 ghost use Rattle.block.specs.Block.{columns, rowOf, rowSamples};
+ghost use Rattle.block.specs.Bound.{AtMost};
 use block::load_column;
-use block::put_row_12bit;
 use islow_i64::islow_1d_2_i64;
 use passes_12bit::PASS1_SHIFT_12_2X2;
 use passes_12bit::PASS2_SHIFT_12_2X2;
 use passes_12bit::descale_each;
 use passes_12bit::widen_8;
+use samples_12bit::put_row_small;
 
 fn pass_2(p: [i64; 8], shift: u32) -> [i64; 2]
     requires { ⌜ (1 ≤ shift) × (shift ≤ 63) ⌝ }
@@ -28,6 +30,7 @@ fn pass_2(p: [i64; 8], shift: u32) -> [i64; 2]
 pub fn columns_2(input: &[i16]) -> [[i64; 2]; 8]
     requires { ⌜ length (now input) ≡ 64 ⌝ }
     ensures { λ r. ⌜ r ≡ columns (pass w64 gains2 14) (now (input .entry)) ⌝ }
+    ensures { λ r. ⌜ ((u : ℕ) → AtMost (2 ^ 32) (getD r u [])) ⌝ }
 {
     let mut w = [[0i64; 2]; 8];
     let mut u = 0;
@@ -54,12 +57,13 @@ fn load_row_2(w: &[[i64; 2]; 8], y: usize) -> [i64; 8]
 
 pub fn rows_2(w: &[[i64; 2]; 8], output: &mut [u16])
     requires { ⌜ length (now output) ≡ 4 ⌝ }
+    requires { ⌜ ((u : ℕ) → AtMost (2 ^ 32) (getD (now w) u [])) ⌝ }
     ensures { λ _. ⌜ now (output .exit) ≡ rowSamples (pass w64 gains2 19) sample12bit 2 (now (w .entry)) ⌝ }
 {
     let mut y = 0;
     while y < 2 {
         let q = pass_2(load_row_2(w, y), PASS2_SHIFT_12_2X2);
-        put_row_12bit(output, y * 2, &q);
+        put_row_small(output, y * 2, &q);
         y += 1;
     }
 }

@@ -15,7 +15,7 @@ returns c =
     let tested = made .before in
     let xs = tested .before .before .before .args .input .now in
     let l = tested .before .if1 .left in
-    done 4 (block12bit two) xs _ l (tested .if2 .left) (block-made two xs (made .columns-2 .ensures) (stored .rows-2 .ensures))
+    done 4 (block12bit two) xs _ l (tested .if2 .left) (block-made two xs (made .columns-2 .ensures .0) (stored .rows-2 .ensures))
 
 pub islow-block-12bit-2x2-spec : {M : Type 1} → statement M
 islow-block-12bit-2x2-spec =

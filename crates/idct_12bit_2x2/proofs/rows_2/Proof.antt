@@ -1,13 +1,16 @@
 -- `idct_12bit_2x2::rows_2` meets its contract. Assumes nothing.
-use Prim.Native.Nat.{_≤_, _-_}
+use Prim.Native.Nat.{_≤_, _-_, _^_}
+use mathlib.Core.Path.{sym, ap, _∙_, subst}
 use native.Mathlib.Omega.{arith}
 use borrow.Author.Needs.{needs}
 use mir.Syntax.{w64}
 use Rattle.gains.specs.Gains.{gains2}
 use Rattle.scaling.specs.Scaling.{sample12bit}
 use Rattle.passes.specs.Passes.{pass}
+use Rattle.block.specs.Bound.{AtMost}
 use Rattle.block.proofs.Rows.{Stored, rows-none, rows-all, two-rows}
 use Rattle.passes_12bit.proofs.Sizes.{row-stored}
+use Rattle.samples_12bit.proofs.Small.{row-small-two}
 use Rattle.idct_12bit_2x2.proofs.rows_2.Statement.{statement}
 use Rattle.idct_12bit_2x2.proofs.rows_2.Tie as tie
 
@@ -17,13 +20,21 @@ Inv-loop w output₀ y₀ output y = (y ≤ 2) × Stored (pass w64 gains2 19) sa
 abbrev μ-loop : tie.MeasureT-loop
 μ-loop w output₀ y₀ output y = 2 - y
 
+asked : tie.Need-put-row-small-requires Inv-loop μ-loop
+asked c κs =
+    let made = c .before .before in
+    let load = made .before in
+    let s = load .before .before .before .before in
+    let row = made .pass-2 .ensures ∙ ap (pass w64 gains2 19) (load .load-row-2 .ensures) in
+    (omega arith, subst (AtMost (2 ^ 31 - 2 ^ 12)) (sym row) (row-small-two (s .args .w .now) _ (s .pre .1)))
+
 loop-again : tie.Need-loop-again Inv-loop μ-loop
 loop-again c =
     let put = c .before .before in
     let made = put .before .before .before in
     let load = made .before in
     let turn = load .before .before in
-    (omega arith, row-stored gains2 19 2 _ _ _ two-rows (turn .loop .inv .1) (omega arith) (load .load-row-2 .ensures) (made .pass-2 .ensures) (put .put-row-12bit .ensures))
+    (omega arith, row-stored gains2 19 2 _ _ _ two-rows (turn .loop .inv .1) (omega arith) (load .load-row-2 .ensures) (made .pass-2 .ensures) (put .put-row-small .ensures))
 
 pub rows-2-spec : {M : Type 1} → statement M
 rows-2-spec =
@@ -36,7 +47,7 @@ rows-2-spec =
     (λ c κs. search needs)
     (λ c. omega arith)
     (λ c. search needs)
-    (λ c κs. omega arith)
+    asked
     (λ c. omega arith)
     (λ c. omega arith)
     loop-again
