@@ -3,7 +3,7 @@
 //
 // Columns first, then rows, with no zero shortcut. Each entry answers its refusal number, 1 for an input not of 64 places, then 3
 // for an output of the wrong length, and then leaves the output as it was; or 0, and the output holds the samples.
-// The 8×8 columns fit 32 bits. Those of 4×4 and 2×2, whose gains are larger, do not, and go at 64 bits as every row does.
+// The 8×8 columns fit 32 bits, and those of 4×4 do with p0 taken apart. Those of 2×2 go at 64 bits, as every row does.
 ghost use mathlib.Core.Path.{_≡_};
 ghost use Rattle.passes.specs.Passes.{eight, four, two};
 ghost use Rattle.block.specs.Block.{block12bit, status, after};

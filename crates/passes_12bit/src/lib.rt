@@ -1,5 +1,5 @@
-// What the passes of the 12-bit blocks share (idct.rs; document 01, "The inverse blocks"): their shifts, widening to 64 bits and
-// scaling down.
+// What the passes of the 12-bit blocks share (idct.rs; document 01, "The inverse blocks"): their shifts, widening to 64 bits,
+// scaling down and adding p0's part.
 ghost use mathlib.Core.Path.{_≡_};
 ghost use mathlib.Core.List.{map};
 ghost use Prim.Native.Nat.{_≤_};
