@@ -3,10 +3,8 @@
 // The column pass keeps PASS1_BITS fraction bits, the row pass takes them and the 1/8 normalisation off again. The zero shortcuts
 // are jidctint.c's; where p[0]·2^13 does not fit 32 bits they differ from the full pass, which wraps.
 ghost use mathlib.Core.Path.{_≡_};
-ghost use mathlib.Core.Bool.{cond};
 ghost use mathlib.Core.List.{map};
 ghost use Prim.Native.Nat.{_≤_};
-ghost use lib.ListN.{replicate};
 ghost use mir.Syntax.{w32};
 ghost use Rattle.integers.specs.Linear.{zeroAt};
 ghost use Rattle.gains.specs.Gains.{gains};
@@ -62,42 +60,22 @@ pub fn ac_is_zero(p: &[i32; 8]) -> bool
     (p[1] | (p[2] | (p[3] | (p[4] | (p[5] | (p[6] | p[7])))))) == 0
 }
 
-fn pick(zero: bool, shortcut: i32, full: i32) -> i32
-    ensures { λ r. ⌜ r ≡ cond zero shortcut full ⌝ }
-{
-    if zero {
-        return shortcut;
-    }
-    full
-}
-
-// A pass with its zero shortcut. Each place is picked by a select, no branch, so that the compiler passes over several rows at once.
-fn pick_8(zero: bool, shortcut: i32, full: [i32; 8]) -> [i32; 8]
-    ensures { λ r. ⌜ r ≡ cond zero (replicate 8 shortcut) full ⌝ }
-{
-    let mut out = [0i32; 8];
-    let mut i = 0;
-    while i < 8 {
-        out[i] = pick(zero, shortcut, full[i]);
-        i += 1;
-    }
-    out
-}
-
 // A column: `islow_pass1` with the zero shortcut.
 pub fn islow_column(p: [i32; 8]) -> [i32; 8]
     ensures { λ r. ⌜ r ≡ columnPass eight p ⌝ }
 {
-    pick_8(
-        ac_is_zero(&p),
-        wrapping_mul_i32(DC_GAIN, p[0]),
-        islow_pass1(p),
-    )
+    if ac_is_zero(&p) {
+        return [wrapping_mul_i32(DC_GAIN, p[0]); 8];
+    }
+    islow_pass1(p)
 }
 
 // A row: `islow_pass2` with the zero shortcut.
 pub fn islow_row(p: [i32; 8]) -> [i32; 8]
     ensures { λ r. ⌜ r ≡ rowPass eight p ⌝ }
 {
-    pick_8(ac_is_zero(&p), descale_i32(p[0], DC_SHIFT), islow_pass2(p))
+    if ac_is_zero(&p) {
+        return [descale_i32(p[0], DC_SHIFT); 8];
+    }
+    islow_pass2(p)
 }
