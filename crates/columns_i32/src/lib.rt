@@ -34,12 +34,12 @@ fn load_narrow_column(input: &[i32], rows: usize, u: usize) -> [i32; 8]
     p
 }
 
-pub fn narrow_columns(input: &[i32]) -> [[i32; 8]; 8]
-    requires { ⌜ length (now input) ≡ 64 ⌝ }
+// Into the caller's array: returned, it would be copied once more.
+pub fn narrow_columns(input: &[i32], w: &mut [[i32; 8]; 8])
+    requires { ⌜ (length (now input) ≡ 64) × (length (now w) ≡ 8) ⌝ }
     requires { ⌜ ((k : ℕ) → k < 64 → mag (getD (now input) k (pos 0)) < 2 ^ 15) ⌝ }
-    ensures { λ r. ⌜ r ≡ columns (columnPass eight) (now (input .entry)) ⌝ }
+    ensures { λ _. ⌜ now (w .exit) ≡ columns (columnPass eight) (now (input .entry)) ⌝ }
 {
-    let mut w = [[0i32; 8]; 8];
     let mut u = 0;
     while u < 8 {
         w[u] = descale_8(
@@ -48,7 +48,6 @@ pub fn narrow_columns(input: &[i32]) -> [[i32; 8]; 8]
         );
         u += 1;
     }
-    w
 }
 
 pub fn narrow_columns_top_half(input: &[i32]) -> [[i32; 8]; 8]

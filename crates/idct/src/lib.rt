@@ -40,7 +40,8 @@ pub fn islow_block_i32(input: &[i32], output: &mut [u8]) -> u32
         return 3;
     }
     if all_fit(input, 64) {
-        let w = narrow_columns(input);
+        let mut w = [[0i32; 8]; 8];
+        narrow_columns(input, &mut w);
         rows(&w, output);
         return 0;
     }

@@ -22,7 +22,7 @@ loop-again c =
 
 returns : tie.Need-returns Inv-loop μ-loop
 returns c =
-    let made = columns-whole _ _ _ (c .before .before .pre .0) (columns-all _ 8 _ _ _ (c .before .loop .inv .1) (omega arith) (omega arith)) in
+    let made = columns-whole _ _ _ (c .before .before .pre .0 .0) (columns-all _ 8 _ _ _ (c .before .loop .inv .1) (omega arith) (omega arith)) in
     made .0 ∙ columns-eight _ (made .1)
 
 pub narrow-columns-spec : {M : Type 1} → statement M
@@ -31,8 +31,8 @@ narrow-columns-spec =
     (tie.spec
     Inv-loop
     μ-loop
-    (λ c. (omega arith, columns-none _ 8 _ _ refl))
-    (λ c κs. (c .before .before .pre .0, ((omega arith, omega arith), c .before .before .pre .1)))
+    (λ c. (omega arith, columns-none _ 8 _ _ (c .pre .0 .1)))
+    (λ c κs. (c .before .before .pre .0 .0, ((omega arith, omega arith), c .before .before .pre .1)))
     (λ c κs. search needs)
     (λ c κs. search needs)
     (λ c. omega arith)

@@ -1,5 +1,5 @@
 -- `idct::islow_block_i32` meets its contract. Assumes nothing.
-use mathlib.Core.Path.{ap, _∙_}
+use mathlib.Core.Path.{refl, ap, _∙_}
 use borrow.Author.Needs.{needs}
 use Rattle.passes.specs.Passes.{eight, columnPass}
 use Rattle.block.specs.Block.{columns}
@@ -11,15 +11,16 @@ use Rattle.idct.proofs.islow_block_i32.Tie as tie
 
 narrow-columns-requires : tie.Need-narrow-columns-requires
 narrow-columns-requires c κs =
-    let tested = c .before .before in
-    (tested .before .if1 .left, each-fits (tested .before .before .before .args .input .now) 64 (said (c .before .all-fit .ensures) (c .if3 .taken)))
+    let fit = c .before in
+    let tested = fit .before .before in
+    ((tested .before .if1 .left, refl), each-fits (tested .before .before .before .args .input .now) 64 (said (fit .before .all-fit .ensures) (fit .if3 .taken)))
 
 returns-narrow : tie.Need-returns-3
 unfolding eight
 returns-narrow c =
     let stored = c .before .before in
     let made = stored .before .before .before in
-    let tested = made .before .before .before in
+    let tested = made .before .before .before .before in
     let xs = tested .before .before .before .args .input .now in
     done 64 _ xs _ (tested .before .if1 .left) (tested .if2 .left) (block-read eight xs (made .narrow-columns .ensures) (stored .rows .ensures))
 
