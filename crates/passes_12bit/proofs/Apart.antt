@@ -19,7 +19,7 @@ use Rattle.integers.proofs.Wrap.{wrap-id}
 use Rattle.integers.proofs.Floor.{floor-div, floor-unique}
 use Rattle.integers.proofs.Bound.{small-fits}
 use Rattle.lists.proofs.Tab.{tab-ext, map-getD}
-use Rattle.gains.specs.Gains.{mirror, mirrored, upper4, gains4, upper2, gains2}
+use Rattle.gains.specs.Gains.{mirror, mirrored, upper4, gains4}
 use Rattle.scaling.specs.Scaling.{descaled}
 use Rattle.passes.specs.Passes.{pass, dc}
 use Rattle.block.specs.Bound.{AtMost}

@@ -1,7 +1,7 @@
 -- Numbers that fit 32 bits with their level shift: how the code reads one, and that the rows of each size give such numbers.
 -- Assumes nothing.
 use mathlib.Core.Path.{_≡_, ap, _∙_, subst, sym}
-use mathlib.Core.Bool.{true, false, _&&_}
+use mathlib.Core.Bool.{false}
 use mathlib.Core.List.{List, [], _∷_}
 use Prim.Native.Nat.{ℕ, zero, suc, _+_, _-_, _*_, _/_, _%_, _^_, _<_, _≤_, zero-le}
 use native.Mathlib.Nat.{mod-lt, div-lt-iff-lt-mul}

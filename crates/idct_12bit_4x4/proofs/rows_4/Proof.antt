@@ -1,16 +1,12 @@
 -- `idct_12bit_4x4::rows_4` meets its contract. Assumes nothing.
 use Prim.Native.Nat.{_≤_, _-_}
-use mathlib.Core.Path.{_≡_, refl, ap, _∙_}
-use mathlib.Core.List.{List, []}
+use mathlib.Core.Path.{refl}
 use native.Mathlib.Omega.{arith}
 use borrow.Author.Needs.{needs}
-use lib.ListN.{getD}
-use lib.IntN.{ℤ}
 use mir.Syntax.{w64}
 use Rattle.gains.specs.Gains.{gains4}
 use Rattle.scaling.specs.Scaling.{sample12bit}
 use Rattle.passes.specs.Passes.{pass}
-use Rattle.block.specs.Block.{rowOf}
 use Rattle.block.proofs.Rows.{Stored, rows-none, rows-all, four-rows}
 use Rattle.passes_12bit.proofs.Sizes.{row-stored, row-made, row-long}
 use Rattle.idct_12bit_4x4.proofs.rows_4.Statement.{statement}
