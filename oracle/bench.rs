@@ -185,18 +185,14 @@ fn within(random: &mut Random, size: u64) -> i64 {
 }
 
 /// Coefficients that are all likely nonzero, small or of the size of DC; a DC
-/// and a few low frequencies, as most blocks of a picture have; DC alone.
+/// and a few low frequencies, as most blocks of a picture have; DC alone; and,
+/// where the type holds them, dense ones that no 16-bit number holds.
 fn coefficients<T: TryFrom<i64>>() -> Vec<(&'static str, Vec<[T; 64]>)> {
     let of = |x: i64| T::try_from(x).ok().expect("a coefficient");
-    vec![
-        (
-            "dense15",
-            many(|r| core::array::from_fn(|_| of(within(r, 15)))),
-        ),
-        (
-            "dense1023",
-            many(|r| core::array::from_fn(|_| of(within(r, 1_023)))),
-        ),
+    let dense = |size| many(|r| core::array::from_fn(|_| of(within(r, size))));
+    let mut kinds = vec![
+        ("dense15", dense(15)),
+        ("dense1023", dense(1_023)),
         (
             "sparse",
             many(|r| {
@@ -216,7 +212,11 @@ fn coefficients<T: TryFrom<i64>>() -> Vec<(&'static str, Vec<[T; 64]>)> {
                 block.map(of)
             }),
         ),
-    ]
+    ];
+    if T::try_from(100_000).is_ok() {
+        kinds.push(("dense100000", dense(100_000)));
+    }
+    kinds
 }
 
 fn samples() -> Vec<(&'static str, Vec<[u8; 64]>)> {

@@ -18,7 +18,7 @@ use Rattle.integers.proofs.Bound.{small-fits}
 use Rattle.lists.specs.Tab.{tab}
 use Rattle.lists.proofs.Tab.{length-tab, getD-tab}
 use Rattle.gains.specs.Gains.{mirror, mirrored, upper, gains}
-use Rattle.scaling.specs.Scaling.{clampTo, sampleU8}
+use Rattle.clamping.specs.Clamping.{clampTo, sampleU8}
 use Rattle.passes.specs.Passes.{eight, pass, columnPass}
 use Rattle.block.specs.Bound.{AtMost}
 use Rattle.block.specs.Block.{columnOf, columns, rowOf, rowSamples, samples, block}

@@ -6,7 +6,7 @@ use native.Mathlib.Omega.{arith}
 use lib.ListN.{getD}
 use lib.IntN.{ℤ, pos, negsuc, natAbs, _+ℤ_, _-ℤ_, _*ℤ_}
 use Rattle.integers.proofs.Difference.{by-dif, differences}
-use Rattle.scaling.specs.Scaling.{clampTo}
+use Rattle.clamping.specs.Clamping.{clampTo}
 use Rattle.passes.specs.Passes.{eight}
 use Rattle.block.specs.Bound.{AtMost}
 use Rattle.block.specs.Block.{block}

@@ -20,7 +20,8 @@ use Rattle.integers.proofs.Bound.{natAbs-dot, mag-le, wrap-dot}
 use Rattle.lists.specs.Tab.{tab}
 use Rattle.lists.proofs.Tab.{getD-tab, getD-every, tab-ext}
 use Rattle.gains.specs.Gains.{mirror, mirrored, upper, gains, upper4, gains4, upper2, gains2}
-use Rattle.scaling.specs.Scaling.{descaled, sample12bit}
+use Rattle.scaling.specs.Scaling.{descaled}
+use Rattle.clamping.specs.Clamping.{sample12bit}
 use Rattle.scaling.proofs.Rounding.{descaled-exact}
 use Rattle.passes.specs.Passes.{Size, eight, four, two, pass}
 use Rattle.block.specs.Bound.{AtMost}

@@ -17,7 +17,8 @@ use Rattle.integers.specs.Linear.{transform, zeroAt}
 use Rattle.lists.specs.Tab.{tab}
 use Rattle.lists.proofs.Tab.{Filled, none, all, same, tab-ext, tab-getD, map-getD, filled-paste}
 use Rattle.gains.specs.Gains.{mirror, mirrored, upper, gains, upper4, gains4, upper2, gains2}
-use Rattle.scaling.specs.Scaling.{descaled, sampleU8}
+use Rattle.scaling.specs.Scaling.{descaled}
+use Rattle.clamping.specs.Clamping.{sampleU8}
 use Rattle.passes.specs.Passes.{Size, pass, dc, columnPass, rowPass}
 use Rattle.block.specs.Block.{columns, rowOf, rowSamples, samples, block, firstRows}
 

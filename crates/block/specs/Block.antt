@@ -8,7 +8,7 @@ use lib.ListN.{length, getD}
 use lib.IntN.{ℤ, pos}
 use mir.Syntax.{w64}
 use Rattle.lists.specs.Tab.{tab}
-use Rattle.scaling.specs.Scaling.{sampleU8, sample12bit}
+use Rattle.clamping.specs.Clamping.{sampleU8, sample12bit}
 use Rattle.passes.specs.Passes.{Size, pass, columnPass, rowPass}
 
 -- column u of a block, from top to bottom

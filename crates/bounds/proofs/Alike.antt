@@ -8,13 +8,13 @@ use lib.IntN.{ℤ, pos}
 use Rattle.lists.proofs.Tab.{getD-tab}
 use Rattle.forward.specs.Forward.{scaledSum}
 use Rattle.quantize.specs.Quantize.{coefficient}
-use Rattle.fdct.specs.Fdct.{coefficients}
+use Rattle.fdct.specs.Fdct.{canonical, coefficients}
 use Rattle.gram.proofs.Energy.{energy-8bit}
 use Rattle.bounds.specs.Demand3.{Alike}
 
 -- coefficient n of a block
 pub coefficient-at : (a quant : List ℕ) (n : ℕ) → n < 64 → getD (coefficients a quant) n (pos 0) ≡ coefficient (scaledSum 128 a n) (getD quant n 0)
-unfolding coefficients
+unfolding coefficients canonical
 coefficient-at a quant n h = getD-tab 64 _ (pos 0) n h
 
 pub alike : (quant a b : List ℕ) → ((i : ℕ) → getD quant i 0 ≤ 255) → coefficients a quant ≡ coefficients b quant → Alike quant a b

@@ -67,7 +67,7 @@ fn decoded(block: &[u8; 64], quant: &[u8; 64]) -> [u8; 64] {
     let mut samples = [0u8; 64];
     fdct::fdct_quantize(block, quant, &mut coefficients);
     dequantize::dequantize(&coefficients, quant, &mut products);
-    idct::islow_block_i32(&products, &mut samples);
+    idct_i32::islow_block_i32(&products, &mut samples);
     samples
 }
 

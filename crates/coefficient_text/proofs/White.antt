@@ -10,7 +10,7 @@ use Rattle.basis.specs.Basis.{reduced, cosineOf, negated, signed, factor, entry
 use Rattle.forward.specs.Sum.{sumTo}
 use Rattle.forward.specs.Forward.{centred, scaledSum}
 use Rattle.quantize.specs.Quantize.{divisorOf, rounded, withSign, coefficient}
-use Rattle.fdct.specs.Fdct.{coefficients}
+use Rattle.fdct.specs.Fdct.{canonical, coefficients}
 use Rattle.decimal_lines.specs.Lines.{digits, decimal, separator, numbers}
 use Rattle.coefficient_text.specs.Text.{header, same, accepted, text}
 
@@ -23,5 +23,5 @@ abbrev line : List ℕ
 line = 48 ∷ zeros
 
 pub white : text (header ++ replicate 64 255) ≡ (49 ∷ 48 ∷ 49 ∷ 54 ∷ zeros) ++ (line ++ (line ++ (line ++ (line ++ (line ++ (line ++ line))))))
-unfolding text accepted same header numbers decimal digits separator coefficients tab coefficient divisorOf rounded withSign scaledSum sumTo centred basis signed mirrors near entry negated reduced factor cosineOf cosines
+unfolding text accepted same header numbers decimal digits separator coefficients canonical tab coefficient divisorOf rounded withSign scaledSum sumTo centred basis signed mirrors near entry negated reduced factor cosineOf cosines
 white = refl

@@ -10,12 +10,12 @@ ghost use lib.Signed.{mag};
 ghost use Rattle.passes.specs.Passes.{eight, columnPass};
 ghost use Rattle.block.specs.Block.{columnOf, columns, firstRows};
 ghost use Rattle.block.specs.Bound.{AtMost};
-use block::load_column_i32;
-use columns::islow_1d_direct;
+use block_access::load_column_i32;
+use islow_direct::islow_1d_direct;
 use narrow::narrow;
 use passes::PASS1_SHIFT;
 use passes::descale_8;
-use passes::islow_column;
+use zero_shortcut::islow_column;
 
 // `load_column_i32` of numbers that fit.
 fn load_narrow_column(input: &[i32], rows: usize, u: usize) -> [i32; 8]

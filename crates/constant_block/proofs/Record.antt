@@ -12,7 +12,7 @@ use lib.IntN.{ℤ, pos}
 use Rattle.lists.specs.Tab.{tab}
 use Rattle.lists.proofs.Tab.{tab-ext}
 use Rattle.zigzag.specs.Zigzag.{zigzagOrder}
-use Rattle.guarded.specs.Guarded.{canonical}
+use Rattle.fdct.specs.Fdct.{canonical}
 use Rattle.quantized_block.specs.Bitmap.{bitmapOf}
 use Rattle.quantized_block.specs.Record.{acPlaces, recordOf}
 use Rattle.quantized_block.proofs.Bitmap.{bitmap-zeros}

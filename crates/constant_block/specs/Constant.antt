@@ -6,7 +6,7 @@ use lib.Dec.{eqb}
 use lib.ListN.{getD}
 use lib.IntN.{ℤ, pos}
 use Rattle.lists.specs.Below.{below}
-use Rattle.guarded.specs.Guarded.{canonical}
+use Rattle.fdct.specs.Fdct.{canonical}
 
 -- "A block of 64 equal samples"
 unfoldable pub constant : List ℕ → Bool

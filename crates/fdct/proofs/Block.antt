@@ -10,8 +10,8 @@ use Rattle.lists.proofs.Tab.{tab-ext}
 use Rattle.forward.specs.Forward.{scaledSum, centredBlock, quantizedSum}
 use Rattle.forward.proofs.Folding.{sum-centred}
 use Rattle.quantize.specs.Quantize.{coefficient}
-use Rattle.fdct.specs.Fdct.{coefficients}
+use Rattle.fdct.specs.Fdct.{canonical, coefficients}
 
 pub block-coefficients : (block quant : List ℕ) → tab 64 (quantizedSum (centredBlock 128 block) quant) ≡ coefficients block quant
-unfolding coefficients quantizedSum
+unfolding coefficients canonical quantizedSum
 block-coefficients block quant = tab-ext 64 _ _ (λ n b. ap (λ (S : ℤ). coefficient S (getD quant n 0)) (sum-centred 128 block n))

@@ -10,9 +10,13 @@ use Rattle.forward.specs.Forward.{scaledSum}
 use Rattle.quantize.specs.Quantize.{coefficient}
 use Rattle.fdct.specs.declared.Coefficient.{Coefficient}
 
--- the 64 coefficients of a block of 8-bit samples under a table of quantizers, in natural order
+-- the coefficient n of a block of 8-bit samples under a table of quantizers
+unfoldable pub canonical : List ℕ → List ℕ → ℕ → ℤ
+canonical block quant n = coefficient (scaledSum 128 block n) (getD quant n 0)
+
+-- all 64, in natural order
 unfoldable pub coefficients : List ℕ → List ℕ → List ℤ
-coefficients block quant = tab 64 (λ n. coefficient (scaledSum 128 block n) (getD quant n 0))
+coefficients block quant = tab 64 (canonical block quant)
 
 -- 1, a block not of 64 places; 2, a table not of 64; 3, an output not of 64
 unfoldable pub status : List ℕ → List ℕ → List ℤ → ℕ

@@ -1,2 +1,2 @@
 // Definitions and laws alone: the canonical forward transform over the centre of the samples (document 01, leaf 4; T.81 A.3.3).
-// The code is in folds, dots, sums, parities, canonical_block and single.
+// The code is in folds, fold_dots, fold_sums, fdct_parity, fdct_block and fdct_coefficient.

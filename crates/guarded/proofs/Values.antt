@@ -15,7 +15,8 @@ use Rattle.quantize.specs.Quantize.{coefficient}
 use Rattle.forward.specs.Forward.{scaledSum}
 use Rattle.fdct_values.specs.Values.{fdctValue, fdctValues}
 use Rattle.binary64.specs.Binary64.{nearHalf, roundedToI16}
-use Rattle.guarded.specs.Guarded.{scaledValue, canonical, guarded}
+use Rattle.fdct.specs.Fdct.{canonical}
+use Rattle.guarded.specs.Guarded.{scaledValue, guarded}
 
 -- an i16, stored
 pub stored : {r v : ℤ} → r ≡ v → SFits w16 r → (toZ w16 (ofZ w16 r) ≡ v) × SFits w16 (toZ w16 (ofZ w16 r))

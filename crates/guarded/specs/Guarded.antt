@@ -5,18 +5,13 @@ use Prim.Native.Nat.{ℕ}
 use lib.ListN.{getD}
 use lib.IntN.{ℤ}
 use lib.Ieee.{Float, nan, binary64, mul}
-use Rattle.quantize.specs.Quantize.{coefficient}
-use Rattle.forward.specs.Forward.{scaledSum}
+use Rattle.fdct.specs.Fdct.{canonical}
 use Rattle.fdct_values.specs.Values.{fdctValue}
 use Rattle.binary64.specs.Binary64.{nearHalf, roundedToI16}
 
 -- "value × reciprocal"
 unfoldable pub scaledValue : List ℕ → List Float → ℕ → Float
 scaledValue block reciprocals n = mul binary64 (fdctValue block n) (getD reciprocals n nan)
-
--- what `fdct_quantize_coefficient` gives
-unfoldable pub canonical : List ℕ → List ℕ → ℕ → ℤ
-canonical block quant n = coefficient (scaledSum 128 block n) (getD quant n 0)
 
 -- "If the fraction of the size of value × reciprocal lies less than 2^-19 from one half, the canonical coefficient stands; else it is
 -- rounded, halves away"

@@ -5,7 +5,7 @@ use mathlib.Core.List.{List}
 use Prim.Native.Nat.{ℕ, _+_}
 use lib.IntN.{ℤ}
 use mir.Syntax.{w64}
-use Rattle.scaling.specs.Scaling.{sample12bit}
+use Rattle.clamping.specs.Clamping.{sample12bit}
 use Rattle.passes.specs.Passes.{Size, pass}
 use Rattle.block.specs.Block.{columns, rowSamples, samples, block12bit}
 

@@ -10,16 +10,16 @@ ghost use lib.Seq.{paste};
 ghost use mir.Syntax.{w32};
 ghost use Rattle.integers.specs.Linear.{zeroAt};
 ghost use Rattle.gains.specs.Gains.{gains4};
-ghost use Rattle.scaling.specs.Scaling.{sampleU8};
+ghost use Rattle.clamping.specs.Clamping.{sampleU8};
 ghost use Rattle.passes.specs.Passes.{four, pass, columnPass, rowPass};
 ghost use Rattle.block.specs.Block.{rowOf, columns, rowSamples};
-use block::load_column;
-use block::put_row;
+use block_access::load_column;
+use block_access::put_row;
 use islow::islow_1d_4;
-use passes::DC_SHIFT;
 use passes::PASS1_SHIFT;
 use passes::PASS2_SHIFT;
 use scaling::descale_i32;
+use zero_shortcut::DC_SHIFT;
 
 // Whether the entries besides p[0] that the 4-point transform reads are zero.
 fn ac_is_zero_4(p: &[i32; 8]) -> bool

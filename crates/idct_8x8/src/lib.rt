@@ -11,18 +11,18 @@ ghost use lib.IntN.{pos};
 ghost use lib.Signed.{mag};
 ghost use Rattle.lists.specs.Below.{below};
 ghost use Rattle.lists.specs.Tab.{tab};
-ghost use Rattle.scaling.specs.Scaling.{sampleU8};
+ghost use Rattle.clamping.specs.Clamping.{sampleU8};
 ghost use Rattle.passes.specs.Passes.{eight, rowPass};
 ghost use Rattle.block.specs.Block.{rowOf, rowSamples};
 ghost use Rattle.idct_8x8.specs.Fit.{Fit};
-use block::put_row;
-use columns::islow_1d_direct;
+use block_access::put_row;
 use columns::load_row;
+use islow_direct::islow_1d_direct;
 use narrow::all_fit;
 use narrow::narrow;
 use passes::PASS2_SHIFT;
 use passes::descale_8;
-use passes::islow_row;
+use zero_shortcut::islow_row;
 
 fn columns_fit(w: &[[i32; 8]; 8]) -> bool
     ensures { λ r. ⌜ r ≡ below 8 (λ u. below 8 (λ k. ltb (mag (getD (getD (now (w .entry)) u []) k (pos 0))) (2 ^ 15))) ⌝ }

@@ -3,12 +3,12 @@ ghost use mathlib.Core.Path.{_≡_};
 ghost use Rattle.passes.specs.Passes.{eight, four, two};
 ghost use Rattle.block.specs.Block.{block, block12bit, firstRows, status, after};
 use idct::islow_block;
-use idct::islow_block_i32;
 use idct::islow_block_top_half;
-use idct::islow_block_top_half_i32;
 use idct_12bit::islow_block_12bit;
 use idct_12bit::islow_block_12bit_2x2;
 use idct_12bit::islow_block_12bit_4x4;
+use idct_i32::islow_block_i32;
+use idct_i32::islow_block_top_half_i32;
 use idct_reduced::islow_block_2x2;
 use idct_reduced::islow_block_4x4;
 

@@ -137,8 +137,8 @@ fn call_narrow(entry: Entry, input: &[i16], output: &mut [u8]) -> u32 {
 
 fn call_wide(entry: Entry, input: &[i32], output: &mut [u8]) -> u32 {
     match entry {
-        Entry::IslowBlockI32 => idct::islow_block_i32(input, output),
-        _ => idct::islow_block_top_half_i32(input, output),
+        Entry::IslowBlockI32 => idct_i32::islow_block_i32(input, output),
+        _ => idct_i32::islow_block_top_half_i32(input, output),
     }
 }
 

@@ -2,6 +2,7 @@
 // function takes, refusals, and the differences from the Rust.
 mod blocks;
 mod forward;
+mod guarded;
 mod print;
 mod stored;
 
@@ -30,7 +31,7 @@ fn sample_u8(value: i32) {
     text(b"sample_u8 ");
     number(value);
     text(b": ");
-    decimal(scaling::sample_u8(value) as u32);
+    decimal(clamping::sample_u8(value) as u32);
     text(b"\n");
 }
 
@@ -38,7 +39,7 @@ fn sample_12bit(value: i64) {
     text(b"sample_12bit ");
     number_i64(value);
     text(b": ");
-    decimal(scaling::sample_12bit(value) as u32);
+    decimal(clamping::sample_12bit(value) as u32);
     text(b"\n");
 }
 
@@ -86,5 +87,6 @@ fn main() {
     islow_gain_bounds();
     blocks::facts();
     forward::facts();
+    guarded::facts();
     stored::facts();
 }

@@ -13,6 +13,10 @@ pub fn decimal_usize(n: usize) {
     io::print_decimal(STDOUT_FILENO, n as u64);
 }
 
+pub fn decimal_u64(n: u64) {
+    io::print_decimal(STDOUT_FILENO, n);
+}
+
 // A number with its sign, in decimal.
 pub fn number(n: i32) {
     let bits = bits::to_bits_i32(n);

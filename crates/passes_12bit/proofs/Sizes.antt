@@ -10,7 +10,8 @@ use mir.Syntax.{w64}
 use Rattle.integers.specs.Linear.{transform}
 use Rattle.lists.specs.Tab.{tab}
 use Rattle.lists.proofs.Tab.{getD-tab}
-use Rattle.scaling.specs.Scaling.{descaled, sample12bit}
+use Rattle.scaling.specs.Scaling.{descaled}
+use Rattle.clamping.specs.Clamping.{sample12bit}
 use Rattle.passes.specs.Passes.{pass}
 use Rattle.block.specs.Block.{columnOf, rowOf, firstRows}
 use Rattle.block.proofs.Rows.{Stored, first-all, rows-more, length-pass}

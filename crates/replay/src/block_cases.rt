@@ -15,7 +15,7 @@ pub fn islow_block(case: &[u8; ROOM]) -> bool {
 pub fn islow_block_i32(case: &[u8; ROOM]) -> bool {
     let input = block_i32(case);
     let mut output = [0u8; 64];
-    let status = idct::islow_block_i32(&input, &mut output);
+    let status = idct_i32::islow_block_i32(&input, &mut output);
     status != 0 || any_differs_u8(case, 256, &output)
 }
 
@@ -29,7 +29,7 @@ pub fn islow_block_top_half(case: &[u8; ROOM]) -> bool {
 pub fn islow_block_top_half_i32(case: &[u8; ROOM]) -> bool {
     let input = block_i32(case);
     let mut output = [0u8; 64];
-    let status = idct::islow_block_top_half_i32(&input, &mut output);
+    let status = idct_i32::islow_block_top_half_i32(&input, &mut output);
     status != 0 || any_differs_u8(case, 256, &output)
 }
 

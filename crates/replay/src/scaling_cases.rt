@@ -18,16 +18,16 @@ pub fn islow_dc(case: &[u8; ROOM]) -> bool {
 }
 
 pub fn sample_u8(case: &[u8; ROOM]) -> bool {
-    let got = scaling::sample_u8(i32_at(case, 0));
+    let got = clamping::sample_u8(i32_at(case, 0));
     differs_u8(case, 4, got)
 }
 
 pub fn sample_centered(case: &[u8; ROOM]) -> bool {
-    let got = scaling::sample_centered(i32_at(case, 0));
+    let got = clamping::sample_centered(i32_at(case, 0));
     differs_i32(case, 4, got)
 }
 
 pub fn sample_12bit(case: &[u8; ROOM]) -> bool {
-    let got = scaling::sample_12bit(i64_at(case, 0));
+    let got = clamping::sample_12bit(i64_at(case, 0));
     differs_u16(case, 8, got)
 }

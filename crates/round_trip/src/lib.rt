@@ -14,7 +14,7 @@ ghost use Rattle.round_trip.specs.Calls.{comparedStatus, comparedAnswer,
 use dequantize::dequantize;
 use fdct::fdct_quantize;
 use idct::islow_block;
-use idct::islow_block_i32;
+use idct_i32::islow_block_i32;
 use stored_blocks::Answer;
 use stored_blocks::same;
 

@@ -24,7 +24,7 @@ use Rattle.integers.proofs.Congruence.{Congruent, then, remainder}
 use Rattle.integers.proofs.Wrap.{wrap-id, wrap-bits, wrap-read, ofZ-congruent}
 use Rattle.integers.proofs.Bound.{natAbs-dot, small-fits}
 use Rattle.gains.specs.Gains.{mirror, mirrored, upper2, gains2}
-use Rattle.scaling.specs.Scaling.{clampTo}
+use Rattle.clamping.specs.Clamping.{clampTo}
 use Rattle.passes.specs.Passes.{pass}
 use Rattle.block.specs.Bound.{AtMost}
 use Rattle.block.specs.Block.{rowOf}

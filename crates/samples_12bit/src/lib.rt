@@ -10,7 +10,7 @@ ghost use lib.ListN.{length};
 ghost use lib.Seq.{paste};
 ghost use mir.Syntax.{w32};
 ghost use Rattle.integers.specs.Wrap.{wrap};
-ghost use Rattle.scaling.specs.Scaling.{sample12bit};
+ghost use Rattle.clamping.specs.Clamping.{sample12bit};
 ghost use Rattle.block.specs.Bound.{AtMost};
 use bits::from_bits_u32;
 use bits::to_bits_i64;
@@ -23,7 +23,7 @@ fn narrow_i64(x: i64) -> i32
     from_bits_u32((to_bits_i64(x) % 0x1_0000_0000) as u32)
 }
 
-// `scaling::sample_12bit` of a number whose level shift fits 32 bits.
+// `clamping::sample_12bit` of a number whose level shift fits 32 bits.
 fn sample_small(value: i64) -> u16
     requires { ⌜ natAbs value ≤ 2 ^ 31 - 2 ^ 12 ⌝ }
     ensures { λ r. ⌜ r ≡ sample12bit value ⌝ }
@@ -38,7 +38,7 @@ fn sample_small(value: i64) -> u16
     shifted as u16
 }
 
-// `block::put_row_12bit` of such numbers.
+// `block_access::put_row_12bit` of such numbers.
 pub fn put_row_small(output: &mut [u16], at: usize, q: &[i64])
     requires { ⌜ at + length (now q) ≤ length (now output) ⌝ }
     requires { ⌜ AtMost (2 ^ 31 - 2 ^ 12) (now q) ⌝ }

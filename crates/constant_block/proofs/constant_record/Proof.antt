@@ -8,7 +8,7 @@ use mir.ValLaws.{toZ-ofZ}
 use Rattle.integers.proofs.Bound.{small-fits}
 use Rattle.lists.specs.Tab.{tab}
 use Rattle.quantize.specs.Quantize.{coefficient}
-use Rattle.guarded.specs.Guarded.{canonical}
+use Rattle.fdct.specs.Fdct.{canonical}
 use Rattle.constant_block.proofs.DcSum.{constant-sum}
 use Rattle.constant_block.proofs.Record.{only-dc}
 use Rattle.constant_block.proofs.constant_record.Statement.{statement}

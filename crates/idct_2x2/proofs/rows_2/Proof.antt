@@ -2,7 +2,7 @@
 use Prim.Native.Nat.{_≤_, _-_}
 use native.Mathlib.Omega.{arith}
 use borrow.Author.Needs.{needs}
-use Rattle.scaling.specs.Scaling.{sampleU8}
+use Rattle.clamping.specs.Clamping.{sampleU8}
 use Rattle.passes.specs.Passes.{two, rowPass}
 use Rattle.block.proofs.Rows.{Stored, rows-none, rows-turn, rows-all, two-rows}
 use Rattle.idct_2x2.proofs.rows_2.Statement.{statement}

@@ -2,7 +2,7 @@
 use Prim.Native.Nat.{_≤_, _-_}
 use native.Mathlib.Omega.{arith}
 use borrow.Author.Needs.{needs}
-use Rattle.scaling.specs.Scaling.{sampleU8}
+use Rattle.clamping.specs.Clamping.{sampleU8}
 use Rattle.passes.specs.Passes.{four, rowPass}
 use Rattle.block.proofs.Rows.{Stored, rows-none, rows-turn, rows-all, four-rows}
 use Rattle.idct_4x4.proofs.rows_4.Statement.{statement}

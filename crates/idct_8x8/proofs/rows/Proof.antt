@@ -7,7 +7,7 @@ use borrow.Author.Needs.{needs}
 use lib.ListN.{getD}
 use lib.IntN.{ℤ}
 use Rattle.lists.proofs.Tab.{getD-tab}
-use Rattle.scaling.specs.Scaling.{sampleU8}
+use Rattle.clamping.specs.Clamping.{sampleU8}
 use Rattle.passes.specs.Passes.{eight, rowPass}
 use Rattle.block.specs.Block.{rowOf}
 use Rattle.block.proofs.Rows.{Stored, rows-none, rows-more, rows-all}

@@ -8,7 +8,7 @@ use lib.IntN.{pos}
 use lib.Seq.{paste, paste-zero}
 use mir.Syntax.{w64}
 use mir.ValLaws.{toZ-ofZ}
-use Rattle.scaling.specs.Scaling.{sample12bit}
+use Rattle.clamping.specs.Clamping.{sample12bit}
 use Rattle.block.proofs.Store.{store-more}
 use Rattle.samples_12bit.proofs.put_row_small.Statement.{statement}
 use Rattle.samples_12bit.proofs.put_row_small.Tie as tie

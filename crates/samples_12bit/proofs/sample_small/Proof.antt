@@ -4,8 +4,8 @@ use native.Mathlib.Omega.{arith}
 use lib.IntN.{pos, _+ℤ_}
 use mir.Syntax.{w32}
 use mir.Val.{toZ, ofZ}
-use Rattle.scaling.specs.Scaling.{sample12bit}
-use Rattle.scaling.proofs.Clamp.{clamp-low, clamp-high}
+use Rattle.clamping.specs.Clamping.{sample12bit}
+use Rattle.clamping.proofs.Clamp.{clamp-low, clamp-high}
 use Rattle.samples_12bit.proofs.Small.{moved, kept}
 use Rattle.samples_12bit.proofs.sample_small.Statement.{statement}
 use Rattle.samples_12bit.proofs.sample_small.Tie as tie

@@ -1,0 +1,30 @@
+-- `zero_shortcut::ac_is_zero` meets its contract. Assumes nothing.
+use borrow.Author.Needs.{needs}
+use mir.Syntax.{w32}
+use Rattle.integers.proofs.ZeroTest.{last-zero, also-zero}
+use Rattle.passes.specs.Passes.{eight}
+use Rattle.zero_shortcut.proofs.ac_is_zero.Statement.{statement}
+use Rattle.zero_shortcut.proofs.ac_is_zero.Tie as tie
+
+returns : tie.Need-returns
+unfolding eight
+returns c =
+    let s6 = c .before in let s5 = s6 .before in let s4 = s5 .before in let s3 = s4 .before in let s2 = s3 .before in let s1 = s2 .before in
+    also-zero w32 1 (s1 .result .given)
+    (also-zero w32 2 (s2 .result2 .given)
+    (also-zero w32 3 (s3 .result3 .given)
+    (also-zero w32 4 (s4 .result4 .given)
+    (also-zero w32 5 (s5 .result5 .given) (also-zero w32 6 (s6 .result6 .given) (last-zero w32 7 (c .result7 .given))))))) .is
+
+pub ac-is-zero-spec : {M : Type 1} → statement M
+ac-is-zero-spec =
+    tie.close
+    (tie.spec
+    (λ c. search needs)
+    (λ c. search needs)
+    (λ c. search needs)
+    (λ c. search needs)
+    (λ c. search needs)
+    (λ c. search needs)
+    (λ c. search needs)
+    returns)
