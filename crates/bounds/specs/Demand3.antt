@@ -13,7 +13,7 @@ use Rattle.fdct.specs.Fdct.{coefficients}
 use Rattle.dequantize.specs.Dequantize.{dequantized}
 use Rattle.passes.specs.Passes.{eight}
 use Rattle.block.specs.Block.{block}
-use Rattle.gram.specs.Difference.{squaredDifferences, squaredDivisors}
+use Rattle.energy.specs.Difference.{squaredDifferences, squaredDivisors}
 
 -- "An 8-bit block is any 64 samples 0..255, a table any 64 quantizers 0..255"
 pub record Bytes (l : List ℕ) : Type 0 where

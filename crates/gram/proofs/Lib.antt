@@ -1,5 +1,4 @@
 pub mod Orthogonal
 pub mod Basis
 pub mod Rounding
-pub mod Energy
 pub mod Reconstruction

@@ -1,2 +1,1 @@
-// The basis is nearly orthogonal, and what follows for blocks of equal coefficients: definitions in specs/, theorems in proofs/.
-// No code.
+// The basis is nearly orthogonal, and what follows for the sums of a block: theorems, and no code.

@@ -12,10 +12,10 @@ use Rattle.quantize.specs.Quantize.{divisorOf, coefficient}
 use Rattle.forward.specs.Sum.{total}
 use Rattle.forward.specs.Forward.{centred, scaledSum}
 use Rattle.forward.proofs.Sum.{sum-ext, sum-sub, total-ext, total-le, total-term, total-scale, total-const}
-use Rattle.gram.specs.Difference.{squaredDifferences, squaredDivisors}
+use Rattle.energy.specs.Difference.{squaredDifferences, squaredDivisors}
 use Rattle.gram.proofs.Orthogonal.{combined, squares-kept}
 use Rattle.gram.proofs.Basis.{basisAt, rowSum, nearly-orthogonal}
 use Rattle.gram.proofs.Rounding.{coefficient-same}
 
 minus-times : (a b c : ℤ) → a *ℤ c -ℤ b *ℤ c ≡ (a -ℤ b) *ℤ c
 minus-times = by-dif _ λ a b. by-dif _ λ c d. by-dif _ λ e f. simp differences (dif-eq _ _ _ _ (omega arith))
