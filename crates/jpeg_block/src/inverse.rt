@@ -1,4 +1,4 @@
-// The inverse blocks (crates idct, idct_reduced, idct_12bit).
+// The inverse blocks (crates idct, idct_i32, idct_reduced, idct_12bit).
 ghost use mathlib.Core.Path.{_≡_};
 ghost use Rattle.passes.specs.Passes.{eight, four, two};
 ghost use Rattle.block.specs.Block.{block, block12bit, firstRows, status, after};

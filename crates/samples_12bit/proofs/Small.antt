@@ -6,7 +6,6 @@ use mathlib.Core.List.{List, [], _∷_}
 use Prim.Native.Nat.{ℕ, zero, suc, _+_, _-_, _*_, _/_, _%_, _^_, _<_, _≤_, zero-le}
 use native.Mathlib.Nat.{mod-lt, div-lt-iff-lt-mul}
 use native.Mathlib.Omega.{arith}
-use borrow.Author.Tests.{ltb-false}
 use lib.Dec.{T, ltb, ltb→lt, lit<}
 use lib.ListN.{getD}
 use lib.Pow.{pow-pos}
@@ -25,6 +24,7 @@ use Rattle.integers.proofs.Wrap.{wrap-id, wrap-bits, wrap-read, ofZ-congruent}
 use Rattle.integers.proofs.Bound.{natAbs-dot, small-fits}
 use Rattle.gains.specs.Gains.{mirror, mirrored, upper2, gains2}
 use Rattle.clamping.specs.Clamping.{clampTo}
+use Rattle.clamping.proofs.Clamp.{clamp-le, clamp-none, not-below, not-above}
 use Rattle.passes.specs.Passes.{pass}
 use Rattle.block.specs.Bound.{AtMost}
 use Rattle.block.specs.Block.{rowOf}
@@ -46,12 +46,10 @@ moved {v} {x} f h ex er =
 
 -- x, which is z, within the bounds: nothing is clamped
 pub kept : (top : ℕ) {x z : ℤ} → x ≡ z → ltZ x (pos 0) ≡ false → ltZ (pos top) x ≡ false → T (nonNeg x) × (natAbs x ≤ top) × (natAbs x ≡ clampTo top z)
-unfolding clampTo
-kept top {z = z} e g h = rw e (within z (rw e at g) (rw e at h))
-  where
-    within : (z : ℤ) → ltZ z (pos 0) ≡ false → ltZ (pos top) z ≡ false → T (nonNeg z) × (natAbs z ≤ top) × (natAbs z ≡ clampTo top z)
-    within (pos n) g h = let k : n ≤ top = ltb-false top n h in (tt, k, omega arith)
-    within (negsuc n) g h = let e : _≡_ {A = ℕ} 0 1 = cc in absurd (omega arith)
+kept top {z = z} e g h =
+    let n = not-below z (rw e at g) in
+    let c = ap natAbs (clamp-none top z n (not-above top z n (rw e at h))) in
+    rw e (n, omega (arith, clamp-le top z, c), c)
 
 -- ---- the rows
 
