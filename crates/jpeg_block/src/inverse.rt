@@ -1,4 +1,4 @@
-// The inverse blocks (crates idct, idct_i32, idct_reduced, idct_12bit).
+// The inverse blocks of 16-bit coefficients (crates idct, idct_reduced, idct_12bit).
 ghost use mathlib.Core.Path.{_≡_};
 ghost use Rattle.passes.specs.Passes.{eight, four, two};
 ghost use Rattle.block.specs.Block.{block, block12bit, firstRows, status, after};
@@ -7,8 +7,6 @@ use idct::islow_block_top_half;
 use idct_12bit::islow_block_12bit;
 use idct_12bit::islow_block_12bit_2x2;
 use idct_12bit::islow_block_12bit_4x4;
-use idct_i32::islow_block_i32;
-use idct_i32::islow_block_top_half_i32;
 use idct_reduced::islow_block_2x2;
 use idct_reduced::islow_block_4x4;
 
@@ -21,27 +19,11 @@ pub extern "C" fn jpeg_block_islow_block(input: &[i16], output: &mut [u8]) -> u3
 }
 
 #[no_mangle]
-pub extern "C" fn jpeg_block_islow_block_i32(input: &[i32], output: &mut [u8]) -> u32
-    ensures { λ r. ⌜ r ≡ status 64 (now (input .entry)) (now (output .entry)) ⌝ }
-    ensures { λ _. ⌜ now (output .exit) ≡ after 64 (block eight) (now (input .entry)) (now (output .entry)) ⌝ }
-{
-    islow_block_i32(input, output)
-}
-
-#[no_mangle]
 pub extern "C" fn jpeg_block_islow_block_top_half(input: &[i16], output: &mut [u8]) -> u32
     ensures { λ r. ⌜ r ≡ status 64 (now (input .entry)) (now (output .entry)) ⌝ }
     ensures { λ _. ⌜ now (output .exit) ≡ after 64 (λ xs. block eight (firstRows 4 xs)) (now (input .entry)) (now (output .entry)) ⌝ }
 {
     islow_block_top_half(input, output)
-}
-
-#[no_mangle]
-pub extern "C" fn jpeg_block_islow_block_top_half_i32(input: &[i32], output: &mut [u8]) -> u32
-    ensures { λ r. ⌜ r ≡ status 64 (now (input .entry)) (now (output .entry)) ⌝ }
-    ensures { λ _. ⌜ now (output .exit) ≡ after 64 (λ xs. block eight (firstRows 4 xs)) (now (input .entry)) (now (output .entry)) ⌝ }
-{
-    islow_block_top_half_i32(input, output)
 }
 
 #[no_mangle]

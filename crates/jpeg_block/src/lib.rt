@@ -6,4 +6,5 @@
 mod canonical;
 mod guarded;
 mod inverse;
+mod inverse_i32;
 mod stored;
