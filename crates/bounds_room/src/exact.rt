@@ -1,5 +1,5 @@
 // What both bounds are made of, in 64 bits. A sum here is below 2^46, so nothing wraps.
-use word::wrapping_mul_u64;
+use word_i64::wrapping_mul_u64;
 
 fn wide(value: u8) -> u64 {
     value as u64

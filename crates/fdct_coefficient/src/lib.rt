@@ -14,8 +14,8 @@ ghost use Rattle.forward.specs.Forward.{centredSum};
 use basis::basis_table;
 use folds::fold;
 use quantize::quantize;
-use word::wrapping_add_i64;
-use word::wrapping_mul_i64;
+use word_i64::wrapping_add_i64;
+use word_i64::wrapping_mul_i64;
 
 fn product(a: i16, b: i32) -> i64
     ensures { λ r. ⌜ r ≡ wrap w64 (a *ℤ b) ⌝ }

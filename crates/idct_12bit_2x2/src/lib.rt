@@ -11,7 +11,7 @@ ghost use Rattle.passes.specs.Passes.{pass};
 ghost use Rattle.block.specs.Block.{columns, rowOf, rowSamples};
 ghost use Rattle.block.specs.Bound.{AtMost};
 use block_access::load_column;
-use islow_i64::islow_1d_2_i64;
+use islow_reduced_i64::islow_1d_2_i64;
 use passes_12bit::PASS1_SHIFT_12_2X2;
 use passes_12bit::PASS2_SHIFT_12_2X2;
 use passes_12bit::descale_each;

@@ -14,7 +14,7 @@ use block_access::load_column;
 use block_access::put_row_12bit;
 use idct_4x4::load_row_4;
 use idct_4x4::pass_4;
-use islow_i64::islow_1d_4_i64;
+use islow_reduced_i64::islow_1d_4_i64;
 use passes_12bit::PASS1_SHIFT_12_4X4;
 use passes_12bit::PASS2_SHIFT_12_4X4;
 use passes_12bit::add_each;

@@ -15,7 +15,7 @@ ghost use Rattle.passes.specs.Passes.{four, pass, columnPass, rowPass};
 ghost use Rattle.block.specs.Block.{rowOf, columns, rowSamples};
 use block_access::load_column;
 use block_access::put_row;
-use islow::islow_1d_4;
+use islow_reduced::islow_1d_4;
 use passes::PASS1_SHIFT;
 use passes::PASS2_SHIFT;
 use scaling::descale_i32;

@@ -12,12 +12,12 @@ pub fn islow_1d(case: &[u8; ROOM]) -> bool {
 }
 
 pub fn islow_1d_4(case: &[u8; ROOM]) -> bool {
-    let got = islow::islow_1d_4(row_i32(case));
+    let got = islow_reduced::islow_1d_4(row_i32(case));
     any_differs_i32(case, 32, &got)
 }
 
 pub fn islow_1d_2(case: &[u8; ROOM]) -> bool {
-    let got = islow::islow_1d_2(row_i32(case));
+    let got = islow_reduced::islow_1d_2(row_i32(case));
     any_differs_i32(case, 32, &got)
 }
 
@@ -32,12 +32,12 @@ pub fn islow_1d_i64(case: &[u8; ROOM]) -> bool {
 }
 
 pub fn islow_1d_4_i64(case: &[u8; ROOM]) -> bool {
-    let got = islow_i64::islow_1d_4_i64(row_i64(case));
+    let got = islow_reduced_i64::islow_1d_4_i64(row_i64(case));
     any_differs_i64(case, 64, &got)
 }
 
 pub fn islow_1d_2_i64(case: &[u8; ROOM]) -> bool {
-    let got = islow_i64::islow_1d_2_i64(row_i64(case));
+    let got = islow_reduced_i64::islow_1d_2_i64(row_i64(case));
     any_differs_i64(case, 64, &got)
 }
 

@@ -21,16 +21,16 @@ pub fn wrapping_mul_i32(case: &[u8; ROOM]) -> bool {
 }
 
 pub fn wrapping_add_i64(case: &[u8; ROOM]) -> bool {
-    let got = word::wrapping_add_i64(i64_at(case, 0), i64_at(case, 8));
+    let got = word_i64::wrapping_add_i64(i64_at(case, 0), i64_at(case, 8));
     differs_i64(case, 16, got)
 }
 
 pub fn wrapping_sub_i64(case: &[u8; ROOM]) -> bool {
-    let got = word::wrapping_sub_i64(i64_at(case, 0), i64_at(case, 8));
+    let got = word_i64::wrapping_sub_i64(i64_at(case, 0), i64_at(case, 8));
     differs_i64(case, 16, got)
 }
 
 pub fn wrapping_mul_i64(case: &[u8; ROOM]) -> bool {
-    let got = word::wrapping_mul_i64(i64_at(case, 0), i64_at(case, 8));
+    let got = word_i64::wrapping_mul_i64(i64_at(case, 0), i64_at(case, 8));
     differs_i64(case, 16, got)
 }

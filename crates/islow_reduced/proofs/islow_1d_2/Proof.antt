@@ -1,9 +1,9 @@
--- `islow::islow_1d_2` meets its contract: its steps are those of the law `two-point`. Assumes nothing.
+-- `islow_reduced::islow_1d_2` meets its contract: its steps are those of the law `two-point`. Assumes nothing.
 use borrow.Author.Needs.{needs}
 use mir.Syntax.{w32}
 use Rattle.gains.proofs.Butterfly.{two-point}
-use Rattle.islow.proofs.islow_1d_2.Statement.{statement}
-use Rattle.islow.proofs.islow_1d_2.Tie as tie
+use Rattle.islow_reduced.proofs.islow_1d_2.Statement.{statement}
+use Rattle.islow_reduced.proofs.islow_1d_2.Tie as tie
 
 returns : tie.Need-returns
 returns c =

@@ -1,9 +1,9 @@
--- `word::wrapping_sub_i64` meets its contract. Assumes nothing.
+-- `word_i64::wrapping_sub_i64` meets its contract. Assumes nothing.
 use borrow.Author.Needs.{needs}
 use mir.Syntax.{w64}
 use Rattle.integers.proofs.Word.{difference-wraps}
-use Rattle.word.proofs.wrapping_sub_i64.Statement.{statement}
-use Rattle.word.proofs.wrapping_sub_i64.Tie as tie
+use Rattle.word_i64.proofs.wrapping_sub_i64.Statement.{statement}
+use Rattle.word_i64.proofs.wrapping_sub_i64.Tie as tie
 
 returns : tie.Need-returns
 returns c =

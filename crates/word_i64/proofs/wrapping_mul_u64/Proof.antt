@@ -1,10 +1,10 @@
--- `word::wrapping_mul_u64` meets its contract. Assumes nothing.
+-- `word_i64::wrapping_mul_u64` meets its contract. Assumes nothing.
 use borrow.Author.Needs.{needs}
 use Prim.Native.Nat.{_^_}
 use lib.Dec.{lit<}
 use Rattle.integers.proofs.Word.{product-fits, halves}
-use Rattle.word.proofs.wrapping_mul_u64.Statement.{statement}
-use Rattle.word.proofs.wrapping_mul_u64.Tie as tie
+use Rattle.word_i64.proofs.wrapping_mul_u64.Statement.{statement}
+use Rattle.word_i64.proofs.wrapping_mul_u64.Tie as tie
 
 pub wrapping-mul-u64-spec : {M : Type 1} → statement M
 wrapping-mul-u64-spec =

@@ -1,9 +1,9 @@
--- `islow_i64::islow_1d_2_i64` meets its contract: its steps are those of the law `two-point`. Assumes nothing.
+-- `islow_reduced_i64::islow_1d_2_i64` meets its contract: its steps are those of the law `two-point`. Assumes nothing.
 use borrow.Author.Needs.{needs}
 use mir.Syntax.{w64}
 use Rattle.gains.proofs.Butterfly.{two-point}
-use Rattle.islow_i64.proofs.islow_1d_2_i64.Statement.{statement}
-use Rattle.islow_i64.proofs.islow_1d_2_i64.Tie as tie
+use Rattle.islow_reduced_i64.proofs.islow_1d_2_i64.Statement.{statement}
+use Rattle.islow_reduced_i64.proofs.islow_1d_2_i64.Tie as tie
 
 returns : tie.Need-returns
 returns c =
