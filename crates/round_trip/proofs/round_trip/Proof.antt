@@ -12,7 +12,8 @@ use Rattle.lists.specs.Tab.{tab}
 use Rattle.lists.proofs.Tab.{tab-getD}
 use Rattle.bounds.specs.Demand3.{products}
 use Rattle.bounds.proofs.Near.{narrow}
-use Rattle.round_trip.proofs.Answers.{coded, returned, length-products, trip-refused, trip-block, trip-quant, trip-coefficients, trip-products, trip-samples, trip-done}
+use Rattle.code_and_compare.proofs.Answers.{coded}
+use Rattle.round_trip.proofs.Answers.{returned, length-products, trip-refused, trip-block, trip-quant, trip-coefficients, trip-products, trip-samples, trip-done}
 use Rattle.round_trip.proofs.round_trip.Statement.{statement}
 use Rattle.round_trip.proofs.round_trip.Tie as tie
 

@@ -3,7 +3,8 @@ use Prim.Native.Nat.{_≤_}
 use mathlib.Core.Path.{_∙_}
 use borrow.Author.Needs.{needs}
 use native.Mathlib.Omega.{arith}
-use Rattle.round_trip.proofs.Answers.{coded, returned, trip-refused, trip-block, trip-quant, trip-coefficients, trip-products, trip-samples, trip-done}
+use Rattle.code_and_compare.proofs.Answers.{coded}
+use Rattle.round_trip.proofs.Answers.{returned, trip-refused, trip-block, trip-quant, trip-coefficients, trip-products, trip-samples, trip-done}
 use Rattle.round_trip.proofs.round_trip_i32.Statement.{statement}
 use Rattle.round_trip.proofs.round_trip_i32.Tie as tie
 

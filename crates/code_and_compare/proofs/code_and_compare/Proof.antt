@@ -1,12 +1,12 @@
--- `round_trip::code_and_compare` meets its contract. Assumes nothing.
+-- `code_and_compare::code_and_compare` meets its contract. Assumes nothing.
 use Prim.Native.Nat.{_≤_}
 use mathlib.Core.Path.{_≡_, ap, _∙_}
 use borrow.Author.Needs.{needs}
 use native.Mathlib.Omega.{arith}
 use lib.ListN.{length}
-use Rattle.round_trip.proofs.Answers.{coded, length-coefficients, compare-refused, bad-a, bad-b, bad-quant, bad-outA, bad-outB, compare-done}
-use Rattle.round_trip.proofs.code_and_compare.Statement.{statement}
-use Rattle.round_trip.proofs.code_and_compare.Tie as tie
+use Rattle.code_and_compare.proofs.Answers.{coded, length-coefficients, compare-refused, bad-a, bad-b, bad-quant, bad-outA, bad-outB, compare-done}
+use Rattle.code_and_compare.proofs.code_and_compare.Statement.{statement}
+use Rattle.code_and_compare.proofs.code_and_compare.Tie as tie
 
 returns-6 : tie.Need-returns-6
 returns-6 c =
