@@ -1,11 +1,12 @@
-// The guarded quantizer and its divisors (crate transform_into).
+// The guarded quantizer and its divisors (crates transform_into and divisors_into).
 ghost use mathlib.Core.Path.{_≡_};
 ghost use mathlib.Core.List.{[], _∷_};
 ghost use Rattle.aan.specs.Divisors.{divisorsAnswer};
 ghost use Rattle.transform.specs.Guarded.{guardedAnswer};
-ghost use Rattle.transform_into.specs.Into.{written, guardedStatus, madeStatus};
+ghost use Rattle.divisors_into.specs.Into.{written, madeStatus};
+ghost use Rattle.transform_into.specs.Into.{guardedStatus};
+use divisors_into::quantization_divisors_into;
 use transform_into::fdct_quantize_into;
-use transform_into::quantization_divisors_into;
 
 #[no_mangle]
 pub extern "C" fn jpeg_block_quantization_divisors(quant: &[u8], out: &mut [f64]) -> u32

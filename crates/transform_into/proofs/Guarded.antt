@@ -11,8 +11,10 @@ use Rattle.lists.proofs.Tab.{tab-getD}
 use Rattle.quantized_block.specs.declared.QuantizedBlock.{QuantizedBlock}
 use Rattle.transform.specs.declared.Quantized.{Quantized}
 use Rattle.transform.specs.Guarded.{guardedAnswer}
-use Rattle.transform_into.specs.Into.{written, recordStatus, guardedStatus, handed}
-use Rattle.transform_into.proofs.Status.{ready, kept, wrote, set-only, status-same, length-ac}
+use Rattle.divisors_into.specs.Into.{written}
+use Rattle.divisors_into.proofs.Written.{kept, wrote}
+use Rattle.transform_into.specs.Into.{recordStatus, guardedStatus, handed}
+use Rattle.transform_into.proofs.Status.{ready, set-only, status-same, length-ac}
 
 handed-same : (xs : List Float) → length xs ≡ 64 → handed xs ≡ xs
 unfolding handed

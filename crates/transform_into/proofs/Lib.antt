@@ -1,3 +1,2 @@
 mod Status
 mod Guarded
-mod Made

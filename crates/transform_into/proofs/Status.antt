@@ -1,5 +1,5 @@
 -- The number of a call that writes into lent places, and what the places hold then. Assumes nothing.
-use mathlib.Core.Path.{_≡_, refl, sym, ap, _∙_}
+use mathlib.Core.Path.{_≡_, refl, sym, _∙_}
 use mathlib.Core.Bool.{Bool, true, false, cond}
 use mathlib.Core.List.{List, [], _∷_}
 use Prim.Native.Nat.{ℕ}
@@ -8,7 +8,7 @@ use native.Mathlib.Decide.{ℕ-discrete}
 use borrow.Author.Tests.{eq-eqb, ne-eqb}
 use lib.Dec.{eqb}
 use lib.ListN.{length, getD, set}
-use lib.IntN.{ℤ, pos}
+use lib.IntN.{ℤ}
 use lib.Ieee.{Float, nan}
 use Rattle.lists.specs.Tab.{tab}
 use Rattle.lists.proofs.Tab.{length-tab, tab-getD}
@@ -18,7 +18,7 @@ use Rattle.quantized_block.specs.declared.QuantizedBlock.{QuantizedBlock}
 use Rattle.transform.specs.declared.Quantized.{Quantized}
 use Rattle.quantized_block.specs.Record.{acPlaces, recordOf}
 use Rattle.transform.specs.Guarded.{refusal, guardedAnswer}
-use Rattle.transform_into.specs.Into.{written, recordStatus, handed}
+use Rattle.transform_into.specs.Into.{recordStatus, handed}
 
 module _ (s n d a b : ℕ) where
   pub refused : (s ≡ 0 → ⊥) → s ≡ recordStatus s n d a b
@@ -59,15 +59,6 @@ entry-passed s z h = go (ℕ-discrete s 0)
     go : Dec (s ≡ 0) → (s ≡ 0) × (z ≡ 0)
     go (yes e) = (e, sym (simp (eq-eqb s 0 e) refl) ∙ h)
     go (no n) = absurd (n (sym (simp (ne-eqb s 0 n) refl) ∙ h))
-
-module _ {A : Type 0} where
-  pub kept : {s : ℕ} (value held : A) → (s ≡ 0 → ⊥) → held ≡ written s value held
-  unfolding written
-  kept {s} value held h = simp (ne-eqb s 0 h) refl
-
-  pub wrote : {s : ℕ} {x : A} (value held : A) → s ≡ 0 → x ≡ value → x ≡ written s value held
-  unfolding written
-  wrote {s} value held e v = simp e v
 
 pub set-only : {A : Type 0} (place : List A) (value : A) → length place ≡ 1 → set place 0 value ≡ value ∷ []
 set-only [] value h = absurd (omega arith)

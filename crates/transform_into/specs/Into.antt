@@ -1,6 +1,6 @@
--- The answers of the guarded quantizer and of its divisors in lent places: the number is returned, the rest is written.
+-- The number of the guarded quantizer with its answers in lent places.
 use mathlib.Core.Bool.{cond}
-use mathlib.Core.List.{List, [], _∷_}
+use mathlib.Core.List.{List}
 use Prim.Native.Nat.{ℕ}
 use lib.Dec.{eqb}
 use lib.ListN.{length}
@@ -8,12 +8,7 @@ use lib.IntN.{ℤ}
 use lib.Ieee.{Float}
 use Rattle.lists.specs.Tab.{tab}
 use Rattle.fdct_8.specs.Literals.{decimal}
-use Rattle.aan.specs.Divisors.{divisorsAnswer}
 use Rattle.transform.specs.Guarded.{guardedAnswer}
-
--- what a buffer holds after the call: the value, or, where the call is refused, what it held before
-unfoldable pub written : {A : Type 0} → ℕ → A → A → A
-written status value held = cond (eqb status 0) value held
 
 -- the entry's number; where the entry does not refuse: 2, divisors not of 64; 3, a place of a wrong length; else 0
 unfoldable pub recordStatus : ℕ → ℕ → ℕ → ℕ → ℕ → ℕ
@@ -30,9 +25,3 @@ handed reciprocals = cond (eqb (length reciprocals) 64) reciprocals (tab 64 (λ 
 unfoldable pub guardedStatus : List ℕ → List ℕ → List Float → List ℤ → List ℤ → List ℕ → ℕ
 guardedStatus block quant reciprocals dc ac bitmap =
     recordStatus (guardedAnswer block quant reciprocals .status) (length reciprocals) (length dc) (length ac) (length bitmap)
-
--- the divisors: 2, 5; then 3
-unfoldable pub madeStatus : List ℕ → List Float → ℕ
-madeStatus quant out =
-    let status = divisorsAnswer quant .status in
-    cond (eqb status 0) (cond (eqb (length out) 64) 0 3) status

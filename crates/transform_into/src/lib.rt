@@ -1,18 +1,16 @@
-// The guarded quantizer and its divisors with their answers in lent places, as C takes them (crates transform and aan).
+// The guarded quantizer with its answers in lent places, as C takes them (crate transform).
 //
-// Document 01 has no length of the divisors and no output for these entries. So these are tested last, and a call that the entry
+// Document 01 has no length of the divisors and no output for this entry. So these are tested last, and a call that the entry
 // refuses has the entry's number here too.
 ghost use mathlib.Core.Path.{_≡_};
 ghost use mathlib.Core.List.{[], _∷_};
 ghost use lib.ListN.{length, getD};
 ghost use lib.IntN.{pos};
-ghost use lib.Ieee.{nan};
 ghost use Rattle.lists.specs.Tab.{tab};
-ghost use Rattle.aan.specs.Divisors.{divisorsAnswer};
 ghost use Rattle.transform.specs.Guarded.{guardedAnswer};
-ghost use Rattle.transform_into.specs.Into.{written, recordStatus, handed, guardedStatus, madeStatus};
+ghost use Rattle.divisors_into.specs.Into.{written};
+ghost use Rattle.transform_into.specs.Into.{recordStatus, handed, guardedStatus};
 use aan::QuantizationDivisors;
-use aan::quantization_divisors;
 use transform::fdct_quantize;
 
 // The number of a record's places: `status` where that is not 0.
@@ -63,17 +61,6 @@ fn put_ac(from: &[i16; 64], to: &mut [i16])
     }
 }
 
-fn put_reciprocals(from: &[f64; 64], to: &mut [f64])
-    requires { ⌜ length (now to) ≡ 64 ⌝ }
-    ensures { λ _. ⌜ now (to .exit) ≡ tab 64 (λ n. getD (now (from .entry)) n nan) ⌝ }
-{
-    let mut n = 0;
-    while n < 64 {
-        to[n] = from[n];
-        n += 1;
-    }
-}
-
 // `transform::fdct_quantize`. The divisors are used as handed over, whatever they hold.
 pub fn fdct_quantize_into(
     block: &[u8],
@@ -103,21 +90,5 @@ pub fn fdct_quantize_into(
     dc[0] = record.dc;
     put_ac(&record.ac_coefficients, ac);
     nonzero_ac[0] = record.nonzero_ac;
-    0
-}
-
-// `aan::quantization_divisors`.
-pub fn quantization_divisors_into(quant: &[u8], out: &mut [f64]) -> u32
-    ensures { λ r. ⌜ r ≡ madeStatus (now (quant .entry)) (now (out .entry)) ⌝ }
-    ensures { λ r. ⌜ now (out .exit) ≡ written r (divisorsAnswer (now (quant .entry)) .divisors .reciprocals) (now (out .entry)) ⌝ }
-{
-    let made = quantization_divisors(quant);
-    if made.status != 0 {
-        return made.status;
-    }
-    if out.len() != 64 {
-        return 3;
-    }
-    put_reciprocals(&made.divisors.reciprocals, out);
     0
 }

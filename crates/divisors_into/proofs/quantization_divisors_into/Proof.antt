@@ -1,8 +1,8 @@
--- `transform_into::quantization_divisors_into` meets its contract. Assumes nothing.
+-- `divisors_into::quantization_divisors_into` meets its contract. Assumes nothing.
 use borrow.Author.Needs.{needs}
-use Rattle.transform_into.proofs.Made.{refused, bad-output, stored}
-use Rattle.transform_into.proofs.quantization_divisors_into.Statement.{statement}
-use Rattle.transform_into.proofs.quantization_divisors_into.Tie as tie
+use Rattle.divisors_into.proofs.Made.{refused, bad-output, stored}
+use Rattle.divisors_into.proofs.quantization_divisors_into.Statement.{statement}
+use Rattle.divisors_into.proofs.quantization_divisors_into.Tie as tie
 
 returns-3 : tie.Need-returns-3
 returns-3 c =

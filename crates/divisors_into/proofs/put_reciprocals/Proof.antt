@@ -1,4 +1,4 @@
--- `transform_into::put_reciprocals` meets its contract. Assumes nothing.
+-- `divisors_into::put_reciprocals` meets its contract. Assumes nothing.
 use Prim.Native.Nat.{_≤_, _-_}
 use mathlib.Core.Path.{refl}
 use native.Mathlib.Omega.{arith}
@@ -6,8 +6,8 @@ use borrow.Author.Needs.{needs}
 use lib.ListN.{getD}
 use lib.Ieee.{nan}
 use Rattle.lists.proofs.Tab.{Filled, none, more, all}
-use Rattle.transform_into.proofs.put_reciprocals.Statement.{statement}
-use Rattle.transform_into.proofs.put_reciprocals.Tie as tie
+use Rattle.divisors_into.proofs.put_reciprocals.Statement.{statement}
+use Rattle.divisors_into.proofs.put_reciprocals.Tie as tie
 
 abbrev Inv-loop : tie.InvT-loop
 Inv-loop from to₀ n₀ to n = (n ≤ 64) × Filled (λ k. getD from k nan) 64 n to

@@ -12,8 +12,8 @@ use Rattle.lists.specs.Tab.{tab}
 use Rattle.lists.proofs.Tab.{length-tab, tab-getD}
 use Rattle.aan.specs.declared.MadeDivisors.{MadeDivisors}
 use Rattle.aan.specs.Divisors.{reciprocals, hasZero, tableTested, refusal, divisorsAnswer}
-use Rattle.transform_into.specs.Into.{written, madeStatus}
-use Rattle.transform_into.proofs.Status.{kept, wrote}
+use Rattle.divisors_into.specs.Into.{written, madeStatus}
+use Rattle.divisors_into.proofs.Written.{kept, wrote}
 
 long : (p z : Bool) (quant : List ℕ) → length (cond p (cond z (refusal 5) (record { status = 0; divisors = record { reciprocals = reciprocals quant } })) (refusal 2) .divisors .reciprocals) ≡ 64
 unfolding refusal reciprocals
