@@ -4,8 +4,8 @@ ghost use Rattle.passes.specs.Passes.{four, two};
 ghost use Rattle.block.specs.Block.{block, status, after};
 use idct_2x2::columns_2;
 use idct_2x2::rows_2;
-use idct_4x4::columns_4;
 use idct_4x4::rows_4;
+use idct_4x4_columns::columns_4;
 
 // The 4×4 block.
 pub fn islow_block_4x4(input: &[i16], output: &mut [u8]) -> u32

@@ -1,6 +1,6 @@
 -- `idct_8x8::pass` meets its contract. Assumes nothing.
 use borrow.Author.Needs.{needs}
-use Rattle.idct_8x8.proofs.Narrow.{fit-all}
+use Rattle.narrow_rows.proofs.Narrow.{fit-all}
 use Rattle.idct_8x8.proofs.pass.Statement.{statement}
 use Rattle.idct_8x8.proofs.pass.Tie as tie
 

@@ -19,7 +19,7 @@ use Rattle.block.specs.Block.{rowOf}
 use Rattle.block.proofs.Load.{abs-16}
 use Rattle.block.proofs.Row.{row-eight}
 use Rattle.narrow.proofs.Each.{each-fits, said}
-use Rattle.idct_8x8.specs.Fit.{Fit}
+use Rattle.narrow_rows.specs.Fit.{Fit}
 
 pub fit-all : (cols : List (List ℤ)) {t : Bool} → t ≡ below 8 (λ u. below 8 (λ k. ltb (mag (getD (getD cols u []) k (pos 0))) (2 ^ 15))) → t ≡ true → Fit cols
 fit-all cols e h u k b c = each-fits (getD cols u []) 8 (below-at 8 _ (said e h) u b) k c

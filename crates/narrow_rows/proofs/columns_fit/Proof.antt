@@ -1,4 +1,4 @@
--- `idct_8x8::columns_fit` meets its contract. Assumes nothing.
+-- `narrow_rows::columns_fit` meets its contract. Assumes nothing.
 use Prim.Native.Nat.{_≤_, _-_, _^_}
 use mathlib.Core.Path.{_≡_, refl}
 use mathlib.Core.List.{[]}
@@ -10,8 +10,8 @@ use lib.IntN.{pos}
 use lib.Signed.{mag}
 use Rattle.lists.specs.Below.{below}
 use Rattle.lists.proofs.Below.{below-next, below-all}
-use Rattle.idct_8x8.proofs.columns_fit.Statement.{statement}
-use Rattle.idct_8x8.proofs.columns_fit.Tie as tie
+use Rattle.narrow_rows.proofs.columns_fit.Statement.{statement}
+use Rattle.narrow_rows.proofs.columns_fit.Tie as tie
 
 abbrev Inv-loop : tie.InvT-loop
 Inv-loop w all₀ u₀ all u = (u ≤ 8) × (all ≡ below u (λ j. below 8 (λ k. ltb (mag (getD (getD w j []) k (pos 0))) (2 ^ 15))))

@@ -1,4 +1,4 @@
--- `idct_8x8::pass_narrow` meets its contract. Assumes nothing.
+-- `narrow_rows::pass_narrow` meets its contract. Assumes nothing.
 use Prim.Native.Nat.{_≤_, _-_}
 use mathlib.Core.Path.{refl, ap, _∙_}
 use mathlib.Core.List.{map}
@@ -11,9 +11,9 @@ use Rattle.gains.specs.Gains.{gains}
 use Rattle.scaling.specs.Scaling.{descaled}
 use Rattle.passes.specs.Passes.{eight, pass, rowPass}
 use Rattle.block.specs.Block.{rowOf}
-use Rattle.idct_8x8.proofs.Narrow.{full-row}
-use Rattle.idct_8x8.proofs.pass_narrow.Statement.{statement}
-use Rattle.idct_8x8.proofs.pass_narrow.Tie as tie
+use Rattle.narrow_rows.proofs.Narrow.{full-row}
+use Rattle.narrow_rows.proofs.pass_narrow.Statement.{statement}
+use Rattle.narrow_rows.proofs.pass_narrow.Tie as tie
 
 abbrev Inv-loop : tie.InvT-loop
 Inv-loop w r₀ y₀ r y = (y ≤ 8) × Filled (λ k. rowPass eight (rowOf w k)) 8 y r

@@ -1,4 +1,4 @@
--- `idct_4x4::pass_4` meets its contract. Assumes nothing.
+-- `idct_4x4_columns::pass_4` meets its contract. Assumes nothing.
 use borrow.Author.Needs.{needs}
 use mathlib.Core.Path.{_∙_}
 use mathlib.Core.List.{[], _∷_}
@@ -8,8 +8,8 @@ use Rattle.gains.specs.Gains.{gains4}
 use Rattle.scaling.proofs.Rounding.{descaled-read}
 use Rattle.block.proofs.Rows.{four-rows}
 use Rattle.block.proofs.Reduced.{pass-read}
-use Rattle.idct_4x4.proofs.pass_4.Statement.{statement}
-use Rattle.idct_4x4.proofs.pass_4.Tie as tie
+use Rattle.idct_4x4_columns.proofs.pass_4.Statement.{statement}
+use Rattle.idct_4x4_columns.proofs.pass_4.Tie as tie
 
 returns : tie.Need-returns
 unfolding tab

@@ -1,4 +1,4 @@
--- `idct_4x4::columns_4` meets its contract. Assumes nothing.
+-- `idct_4x4_columns::columns_4` meets its contract. Assumes nothing.
 use Prim.Native.Nat.{_≤_, _-_}
 use mathlib.Core.Path.{refl}
 use native.Mathlib.Omega.{arith}
@@ -8,8 +8,8 @@ use Rattle.passes.specs.Passes.{four, columnPass}
 use Rattle.block.specs.Block.{columnOf, columns}
 use Rattle.block.proofs.Column.{column-four}
 use Rattle.block.proofs.Reduced.{column-read}
-use Rattle.idct_4x4.proofs.columns_4.Statement.{statement}
-use Rattle.idct_4x4.proofs.columns_4.Tie as tie
+use Rattle.idct_4x4_columns.proofs.columns_4.Statement.{statement}
+use Rattle.idct_4x4_columns.proofs.columns_4.Tie as tie
 
 abbrev Inv-loop : tie.InvT-loop
 Inv-loop input w₀ u₀ w u = (u ≤ 8) × Filled (λ i. columnPass four (columnOf input i)) 8 u w

@@ -1,4 +1,4 @@
--- `idct_4x4::load_row_4` meets its contract. Assumes nothing.
+-- `idct_4x4_columns::load_row_4` meets its contract. Assumes nothing.
 use Prim.Native.Nat.{_≤_, _-_}
 use mathlib.Core.Path.{refl}
 use mathlib.Core.List.{[]}
@@ -9,8 +9,8 @@ use mir.Syntax.{w32}
 use mir.ValLaws.{toZ-ofZ}
 use Rattle.lists.proofs.Tab.{Filled, none, more, all}
 use Rattle.block.specs.Block.{rowOf}
-use Rattle.idct_4x4.proofs.load_row_4.Statement.{statement}
-use Rattle.idct_4x4.proofs.load_row_4.Tie as tie
+use Rattle.idct_4x4_columns.proofs.load_row_4.Statement.{statement}
+use Rattle.idct_4x4_columns.proofs.load_row_4.Tie as tie
 
 abbrev Inv-loop : tie.InvT-loop
 Inv-loop w y p₀ u₀ p u = (u ≤ 8) × Filled (λ i. getD (getD w i []) y (pos 0)) 8 u p

@@ -1,4 +1,4 @@
--- `idct_8x8::load_narrow_row` meets its contract. Assumes nothing.
+-- `narrow_rows::load_narrow_row` meets its contract. Assumes nothing.
 use Prim.Native.Nat.{_≤_, _-_}
 use mathlib.Core.Path.{refl}
 use mathlib.Core.List.{[]}
@@ -10,8 +10,8 @@ use mir.ValLaws.{toZ-ofZ}
 use Rattle.integers.proofs.Word.{widened-read}
 use Rattle.lists.proofs.Tab.{Filled, none, more, all}
 use Rattle.block.specs.Block.{rowOf}
-use Rattle.idct_8x8.proofs.load_narrow_row.Statement.{statement}
-use Rattle.idct_8x8.proofs.load_narrow_row.Tie as tie
+use Rattle.narrow_rows.proofs.load_narrow_row.Statement.{statement}
+use Rattle.narrow_rows.proofs.load_narrow_row.Tie as tie
 
 abbrev Inv-loop : tie.InvT-loop
 Inv-loop w y p₀ u₀ p u = (u ≤ 8) × Filled (λ k. getD (getD w k []) y (pos 0)) 8 u p
