@@ -1,92 +1,80 @@
 // Prints what the exported functions give at known places, one fact a line: the ends of what a
-// function takes, refusals, and the differences from the Rust.
-mod blocks;
-mod forward;
-mod guarded;
-mod print;
-mod stored;
+// function takes, refusals, and the differences from the Rust. The cases of a function are the lines
+// of its file in data/.
+mod call;
+mod case;
+mod show;
 
-use print::decimal;
-use print::number;
-use print::number_i64;
-use print::text;
+use show::text;
 
-fn descale(value: i32, shift: i32) {
-    text(b"descale ");
-    number(value);
-    text(b" by ");
-    number(shift);
-    text(b": ");
-    let got = scaling::descale(value, shift);
-    if got.status != 0 {
-        text(b"refused ");
-        decimal(got.status);
-        text(b", value ");
-    }
-    number(got.value);
-    text(b"\n");
-}
-
-fn sample_u8(value: i32) {
-    text(b"sample_u8 ");
-    number(value);
-    text(b": ");
-    decimal(clamping::sample_u8(value) as u32);
-    text(b"\n");
-}
-
-fn sample_12bit(value: i64) {
-    text(b"sample_12bit ");
-    number_i64(value);
-    text(b": ");
-    decimal(clamping::sample_12bit(value) as u32);
-    text(b"\n");
-}
-
-fn islow_gain_bounds() {
-    let got = gains::islow_gain_bounds();
-    text(b"islow_gain_bounds: ");
-    number(got.max_gain);
+fn answer(name: &[u8], function: usize, line: &[u8]) {
+    text(name);
     text(b" ");
-    number(got.max_l1);
+    text(line);
+    call::call(function, &case::numbers(line));
     text(b"\n");
 }
 
-// The first and the last shift that work, with halves and a sum that wraps.
-fn shifts_that_work() {
-    descale(5, 1);
-    descale(-5, 1);
-    descale(i32::MAX, 1);
-    descale(5, 31);
-    descale(-5, 31);
-    descale(i32::MAX, 31);
+// A line that starts with # says why cases are there.
+fn run(name: &[u8], function: usize, line: &[u8]) {
+    if line.len() == 0 {
+        return;
+    }
+    if line[0] != b'#' {
+        answer(name, function, line);
+    }
 }
 
-fn shifts_refused() {
-    descale(5, 0);
-    descale(-5, 32);
-    descale(i32::MAX, -1);
-    descale(5, i32::MIN);
-    descale(5, i32::MAX);
+fn run_each(name: &[u8], function: usize, lines: &[u8]) {
+    let mut start = 0;
+    let mut i = 0;
+    while i < lines.len() {
+        if lines[i] != b'\n' {
+            i += 1;
+            continue;
+        }
+        run(name, function, &lines[start..i]);
+        i += 1;
+        start = i;
+    }
 }
 
-fn samples() {
-    // 128 is added before the clamp, and the sum wraps.
-    sample_u8(2147483519);
-    sample_u8(2147483520);
-    // The last value whose sum with 2048 fits, then two where the Rust overflows.
-    sample_12bit(9223372036854773759);
-    sample_12bit(9223372036854773760);
-    sample_12bit(i64::MAX);
+// The file of a function has its name. Where it cannot be read there are no cases.
+fn run_file(name: &[u8], function: usize) {
+    let fd = os::open_read(name);
+    if fd < 0 {
+        os::fail(name);
+    }
+    let mut lines = io::buffer();
+    let got = io::read_full(fd, &mut lines);
+    libc::close(fd);
+    run_each(name, function, &lines[..got]);
 }
 
+// Runs the functions of the names, each of which a blank ends.
+fn run_files(names: &[u8]) {
+    let mut function = 0;
+    let mut start = 0;
+    let mut i = 0;
+    while i < names.len() {
+        if names[i] != b' ' {
+            i += 1;
+            continue;
+        }
+        run_file(&names[start..i], function);
+        function += 1;
+        i += 1;
+        start = i;
+    }
+}
+
+// In the order of call.rt's numbers.
 fn main() {
-    shifts_that_work();
-    shifts_refused();
-    samples();
-    islow_gain_bounds();
-    blocks::facts();
-    forward::facts();
-    guarded::facts();
-    stored::facts();
+    run_files(
+        b"descale sample_u8 sample_12bit islow_gain_bounds islow_block islow_block_top_half \
+          islow_block_4x4 islow_block_2x2 islow_block_12bit islow_block_12bit_4x4 \
+          islow_block_12bit_2x2 islow_block_i32 islow_block_top_half_i32 fdct_quantize \
+          fdct_quantize_coefficient transform_fdct_quantize quantization_divisors dequantize \
+          screen same ",
+    );
 }
