@@ -1,5 +1,5 @@
 // The functions, by their places in main.rt's list, and which of a case's numbers are their inputs.
-ghost use Prim.Native.Nat.{_+_, _<_, _≤_};
+ghost use Prim.Native.Nat.{_<_, _≤_};
 use crate::case::MOST;
 use crate::case::byte;
 use crate::case::entry;
