@@ -7,7 +7,7 @@ use native.Mathlib.Omega.{arith}
 use lib.ListN.{getD, replicate, getD-replicate}
 use lib.IntN.{ℤ, pos, _-ℤ_, _*ℤ_}
 use Rattle.lists.specs.Tab.{tab}
-use Rattle.lists.proofs.Tab.{getD-tab, tabOnto, tabled}
+use Rattle.lists.proofs.Tab.{getD-tab}
 use Rattle.basis.specs.Cosine.{cosines}
 use Rattle.basis.specs.Basis.{reduced, cosineOf, negated, signed, factor, entry, near, mirrors, basis}
 use Rattle.forward.specs.Sum.{sumTo}
@@ -22,8 +22,8 @@ abbrev pub basisSums : List ℤ
 basisSums = pos (2 ^ 35) ∷ replicate 63 (pos 0)
 
 basis-sums : basisSums ≡ tab 64 basisSum
-unfolding tabOnto basisSum sumTo cosines reduced cosineOf negated signed factor entry near mirrors basis
-basis-sums = tabled 64 basisSum basisSums refl
+unfolding tab basisSum sumTo cosines reduced cosineOf negated signed factor entry near mirrors basis
+basis-sums = refl
 
 module _ (centre s n : ℕ) (h : n < 64) where
   abbrev less : ℤ

@@ -127,19 +127,3 @@ filled-paste f m k l ys n h b e =
 pub getD-paste : {A : Type 0} (d : A) (l ys : List A) (at n i : ℕ) → at ≤ length l → n ≤ length ys → getD (paste l at ys n) (at + n + i) d ≡ getD l (at + n + i) d
 getD-paste d l ys at n i h b =
     sym (getD-drop (at + n) (paste l at ys n) i d) ∙ ap (λ (t : List _). getD t i d) (drop-paste l at ys n h b) ∙ getD-drop (at + n) l i d
-
--- ---- tables
-
--- the same list, made from its last element on: the checker computes it in n steps, and `tab`, which appends, in n·n
-unfoldable pub tabOnto : {A : Type 0} → ℕ → (ℕ → A) → List A → List A
-tabOnto zero f l = l
-tabOnto (suc n) f l = tabOnto n f (f n ∷ l)
-
-tab-onto : {A : Type 0} (n : ℕ) (f : ℕ → A) (l : List A) → tab n f ++ l ≡ tabOnto n f l
-unfolding tab tabOnto
-tab-onto zero f l = refl
-tab-onto (suc n) f l = append-assoc (tab n f) (f n ∷ []) l ∙ tab-onto n f (f n ∷ l)
-
--- a table is the list of a rule
-pub tabled : {A : Type 0} (n : ℕ) (f : ℕ → A) (l : List A) → l ≡ tabOnto n f [] → l ≡ tab n f
-tabled n f l e = e ∙ sym (tab-onto n f []) ∙ append-nil (tab n f)
