@@ -3,13 +3,12 @@
 // Numbers that fit 16 bits, as the products of a JPEG file's coefficients and divisors nearly always do, go by direct products, as
 // those of 16-bit input do. Of others the zero shortcut is not the full pass where that wraps.
 ghost use mathlib.Core.Path.{_≡_};
-ghost use Prim.Native.Nat.{ℕ, _*_, _≤_, _<_, _^_};
-ghost use lib.ListN.{length, getD};
-ghost use lib.IntN.{pos};
-ghost use lib.Signed.{mag};
+ghost use Prim.Native.Nat.{_*_, _≤_, _<_, _^_};
+ghost use lib.ListN.{length};
 ghost use Rattle.passes.specs.Passes.{eight, columnPass};
 ghost use Rattle.block.specs.Block.{columnOf, columns, firstRows};
 ghost use Rattle.block.specs.Bound.{AtMost};
+ghost use Rattle.narrow.specs.Fit.{AllFit};
 use block_access::load_column_i32;
 use islow_direct::islow_1d_direct;
 use narrow::narrow;
@@ -21,7 +20,7 @@ use zero_shortcut::islow_column;
 fn load_narrow_column(input: &[i32], rows: usize, u: usize) -> [i32; 8]
     requires { ⌜ length (now input) ≡ 64 ⌝ }
     requires { ⌜ (rows ≤ 8) × (u < 8) ⌝ }
-    requires { ⌜ ((k : ℕ) → k < 8 * rows → mag (getD (now input) k (pos 0)) < 2 ^ 15) ⌝ }
+    requires { ⌜ AllFit (8 * rows) (now input) ⌝ }
     ensures { λ r. ⌜ r ≡ columnOf (firstRows rows (now (input .entry))) u ⌝ }
     ensures { λ r. ⌜ AtMost (2 ^ 15) r ⌝ }
 {
@@ -37,7 +36,7 @@ fn load_narrow_column(input: &[i32], rows: usize, u: usize) -> [i32; 8]
 // Into the caller's array: returned, it would be copied once more.
 pub fn narrow_columns(input: &[i32], w: &mut [[i32; 8]; 8])
     requires { ⌜ (length (now input) ≡ 64) × (length (now w) ≡ 8) ⌝ }
-    requires { ⌜ ((k : ℕ) → k < 64 → mag (getD (now input) k (pos 0)) < 2 ^ 15) ⌝ }
+    requires { ⌜ AllFit 64 (now input) ⌝ }
     ensures { λ _. ⌜ now (w .exit) ≡ columns (columnPass eight) (now (input .entry)) ⌝ }
 {
     let mut u = 0;
@@ -52,7 +51,7 @@ pub fn narrow_columns(input: &[i32], w: &mut [[i32; 8]; 8])
 
 pub fn narrow_columns_top_half(input: &[i32]) -> [[i32; 8]; 8]
     requires { ⌜ length (now input) ≡ 64 ⌝ }
-    requires { ⌜ ((k : ℕ) → k < 32 → mag (getD (now input) k (pos 0)) < 2 ^ 15) ⌝ }
+    requires { ⌜ AllFit 32 (now input) ⌝ }
     ensures { λ r. ⌜ r ≡ columns (columnPass eight) (firstRows 4 (now (input .entry))) ⌝ }
 {
     let mut w = [[0i32; 8]; 8];

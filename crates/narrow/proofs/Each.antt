@@ -3,15 +3,13 @@
 use mathlib.Core.Path.{_≡_, sym, subst, _∙_}
 use mathlib.Core.Bool.{Bool, true}
 use mathlib.Core.List.{List}
-use Prim.Native.Nat.{ℕ, _^_, _<_}
-use lib.Dec.{T, ltb, ltb→lt}
-use lib.ListN.{getD}
-use lib.IntN.{ℤ, pos}
-use lib.Signed.{mag}
-use Rattle.lists.specs.Below.{below}
+use Prim.Native.Nat.{ℕ}
+use lib.Dec.{T, ltb→lt}
+use lib.IntN.{ℤ}
 use Rattle.lists.proofs.Below.{below-at}
+use Rattle.narrow.specs.Fit.{allFit, AllFit}
 
-pub each-fits : (xs : List ℤ) (n : ℕ) → T (below n (λ k. ltb (mag (getD xs k (pos 0))) (2 ^ 15))) → (k : ℕ) → k < n → mag (getD xs k (pos 0)) < 2 ^ 15
+pub each-fits : (xs : List ℤ) (n : ℕ) → T (allFit n xs) → AllFit n xs
 each-fits xs n t k b = ltb→lt _ _ (below-at n _ t k b)
 
 pub said : {t s : Bool} → t ≡ s → t ≡ true → T s

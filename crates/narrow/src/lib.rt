@@ -2,10 +2,9 @@
 ghost use mathlib.Core.Path.{_≡_};
 ghost use Prim.Native.Nat.{_≤_, _<_, _^_};
 ghost use lib.Dec.{ltb};
-ghost use lib.ListN.{length, getD};
-ghost use lib.IntN.{pos};
+ghost use lib.ListN.{length};
 ghost use lib.Signed.{mag};
-ghost use Rattle.lists.specs.Below.{below};
+ghost use Rattle.narrow.specs.Fit.{allFit};
 
 fn fits_16(x: i32) -> bool
     ensures { λ r. ⌜ r ≡ ltb (mag x) (2 ^ 15) ⌝ }
@@ -16,7 +15,7 @@ fn fits_16(x: i32) -> bool
 // Whether the first n values fit. No branch for each, so that the compiler tests several at once.
 pub fn all_fit(values: &[i32], n: usize) -> bool
     requires { ⌜ n ≤ length (now values) ⌝ }
-    ensures { λ r. ⌜ r ≡ below n (λ k. ltb (mag (getD (now (values .entry)) k (pos 0))) (2 ^ 15)) ⌝ }
+    ensures { λ r. ⌜ r ≡ allFit n (now (values .entry)) ⌝ }
 {
     let mut all = true;
     let mut i = 0;

@@ -1,10 +1,10 @@
 -- Numbers of eight columns that fit 16 bits.
 use mathlib.Core.List.{List, []}
-use Prim.Native.Nat.{ℕ, _^_, _<_}
+use Prim.Native.Nat.{ℕ, _<_}
 use lib.ListN.{getD}
-use lib.IntN.{ℤ, pos}
-use lib.Signed.{mag}
+use lib.IntN.{ℤ}
+use Rattle.narrow.specs.Fit.{AllFit}
 
 -- each of the eight numbers of each column fits
 abbrev pub Fit : List (List ℤ) → Type 0
-Fit cols = (u k : ℕ) → u < 8 → k < 8 → mag (getD (getD cols u []) k (pos 0)) < 2 ^ 15
+Fit cols = (u : ℕ) → u < 8 → AllFit 8 (getD cols u [])

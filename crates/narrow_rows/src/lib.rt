@@ -4,15 +4,13 @@
 // A row's zero shortcut then gives what its full pass gives, and that goes by direct products, as the columns of 16-bit numbers do.
 ghost use mathlib.Core.Path.{_≡_};
 ghost use mathlib.Core.List.{[]};
-ghost use Prim.Native.Nat.{_<_, _^_};
-ghost use lib.Dec.{ltb};
+ghost use Prim.Native.Nat.{_<_};
 ghost use lib.ListN.{getD};
-ghost use lib.IntN.{pos};
-ghost use lib.Signed.{mag};
 ghost use Rattle.lists.specs.Below.{below};
 ghost use Rattle.lists.specs.Tab.{tab};
 ghost use Rattle.passes.specs.Passes.{eight, rowPass};
 ghost use Rattle.block.specs.Block.{rowOf};
+ghost use Rattle.narrow.specs.Fit.{allFit};
 ghost use Rattle.narrow_rows.specs.Fit.{Fit};
 use islow_direct::islow_1d_direct;
 use narrow::all_fit;
@@ -21,7 +19,7 @@ use passes::PASS2_SHIFT;
 use passes::descale_8;
 
 pub fn columns_fit(w: &[[i32; 8]; 8]) -> bool
-    ensures { λ r. ⌜ r ≡ below 8 (λ u. below 8 (λ k. ltb (mag (getD (getD (now (w .entry)) u []) k (pos 0))) (2 ^ 15))) ⌝ }
+    ensures { λ r. ⌜ r ≡ below 8 (λ u. allFit 8 (getD (now (w .entry)) u [])) ⌝ }
 {
     let mut all = true;
     let mut u = 0;

@@ -11,11 +11,12 @@ use mir.Syntax.{w32}
 use mir.ValLaws.{toZ-ofZ}
 use Rattle.lists.specs.Below.{below}
 use Rattle.lists.proofs.Below.{below-next, below-all}
+use Rattle.narrow.specs.Fit.{allFit}
 use Rattle.narrow.proofs.all_fit.Statement.{statement}
 use Rattle.narrow.proofs.all_fit.Tie as tie
 
 abbrev Inv-loop : tie.InvT-loop
-Inv-loop values n all₀ i₀ all i = (i ≤ n) × (all ≡ below i (λ k. ltb (mag (getD values k (pos 0))) (2 ^ 15)))
+Inv-loop values n all₀ i₀ all i = (i ≤ n) × (all ≡ allFit i values)
 
 abbrev μ-loop : tie.MeasureT-loop
 μ-loop values n all₀ i₀ all i = n - i

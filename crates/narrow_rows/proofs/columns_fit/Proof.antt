@@ -1,20 +1,18 @@
 -- `narrow_rows::columns_fit` meets its contract. Assumes nothing.
-use Prim.Native.Nat.{_≤_, _-_, _^_}
+use Prim.Native.Nat.{_≤_, _-_}
 use mathlib.Core.Path.{_≡_, refl}
 use mathlib.Core.List.{[]}
 use native.Mathlib.Omega.{arith}
 use borrow.Author.Needs.{needs}
-use lib.Dec.{ltb}
 use lib.ListN.{getD}
-use lib.IntN.{pos}
-use lib.Signed.{mag}
 use Rattle.lists.specs.Below.{below}
 use Rattle.lists.proofs.Below.{below-next, below-all}
+use Rattle.narrow.specs.Fit.{allFit}
 use Rattle.narrow_rows.proofs.columns_fit.Statement.{statement}
 use Rattle.narrow_rows.proofs.columns_fit.Tie as tie
 
 abbrev Inv-loop : tie.InvT-loop
-Inv-loop w all₀ u₀ all u = (u ≤ 8) × (all ≡ below u (λ j. below 8 (λ k. ltb (mag (getD (getD w j []) k (pos 0))) (2 ^ 15))))
+Inv-loop w all₀ u₀ all u = (u ≤ 8) × (all ≡ below u (λ j. allFit 8 (getD w j [])))
 
 abbrev μ-loop : tie.MeasureT-loop
 μ-loop w all₀ u₀ all u = 8 - u

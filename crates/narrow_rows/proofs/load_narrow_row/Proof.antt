@@ -24,7 +24,7 @@ narrow-requires c κs =
     let turn = c .before .before in
     let s = turn .before in
     let x = getD (getD (s .args .w .now) (turn .loop .u) []) (s .args .y) (pos 0) in
-    rw (toZ-ofZ w32 x (record { sfits = c .narrow-arg .given })) (s .pre .1 (turn .loop .u) (s .args .y) (omega arith) (s .pre .0))
+    rw (toZ-ofZ w32 x (record { sfits = c .narrow-arg .given })) (s .pre .1 (turn .loop .u) (omega arith) (s .args .y) (s .pre .0))
 
 loop-again : tie.Need-loop-again Inv-loop μ-loop
 loop-again c =
