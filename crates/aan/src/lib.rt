@@ -4,7 +4,9 @@
 // off together with the quantizer. Each operation is rounded once, in the Rust's order.
 ghost use mathlib.Core.Path.{_≡_};
 ghost use lib.ListN.{length};
-ghost use Rattle.aan.specs.Divisors.{aanScale, hasZero, reciprocals, refusal, divisorsAnswer};
+ghost use Rattle.guarded_floats.specs.Divisors.{aanScale, hasZero, reciprocals, refusal, divisorsAnswer};
+use guarded_floats::MadeDivisors;
+use guarded_floats::QuantizationDivisors;
 
 // √2·cos(uπ/16), and 1 for u = 0.
 pub const AAN_SCALE: [f64; 8] = [
@@ -17,17 +19,6 @@ pub const AAN_SCALE: [f64; 8] = [
     0.541_196_100_146_197_1,
     0.275_899_379_282_943_1,
 ];
-
-// What the guarded quantizer multiplies by instead of dividing.
-pub struct QuantizationDivisors {
-    pub reciprocals: [f64; 64],
-}
-
-// What `quantization_divisors` answers: status 0 and the divisors, or a refusal's number and 64 zeros.
-pub struct MadeDivisors {
-    pub status: u32,
-    pub divisors: QuantizationDivisors,
-}
 
 // AAN_SCALE, as a value that a contract can speak of. Take it once, outside of loops: it is copied.
 pub fn aan_scale() -> [f64; 8]

@@ -3,3 +3,8 @@ pub mod Fraction
 pub mod Fields
 pub mod NearHalf
 pub mod Rounding
+pub mod Error
+pub mod Sum
+pub mod Clear
+pub mod Digits
+pub mod FixedPoint

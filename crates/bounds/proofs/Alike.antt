@@ -8,7 +8,7 @@ use lib.IntN.{ℤ, pos}
 use Rattle.lists.proofs.Tab.{getD-tab}
 use Rattle.forward.specs.Forward.{scaledSum}
 use Rattle.quantize.specs.Quantize.{coefficient}
-use Rattle.fdct.specs.Fdct.{canonical, coefficients}
+use Rattle.forward.specs.Canonical.{canonical, coefficients}
 use Rattle.energy.proofs.Energy.{energy-8bit}
 use Rattle.bounds.specs.Demand3.{Alike}
 

@@ -1,3 +1,5 @@
 pub mod Alike
 pub mod Near
 pub mod Theorem
+pub mod Compared
+pub mod Returned

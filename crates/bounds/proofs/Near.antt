@@ -17,8 +17,8 @@ use Rattle.forward.specs.Forward.{centred, centredBlock, scaledSum}
 use Rattle.forward.proofs.Folding.{sum-centred}
 use Rattle.forward.proofs.Scaled.{scaled-size}
 use Rattle.block.specs.Bound.{AtMost}
-use Rattle.dequantize.specs.Dequantize.{product, dequantized}
-use Rattle.fdct.specs.Fdct.{coefficients}
+use Rattle.stored_coefficients.specs.Dequantize.{product, dequantized}
+use Rattle.forward.specs.Canonical.{coefficients}
 use Rattle.gram.proofs.Rounding.{coefficient-nearest}
 use Rattle.gram.proofs.Reconstruction.{centred-within, quantized-reconstruction}
 use Rattle.accuracy.specs.Sample.{exactNumber}

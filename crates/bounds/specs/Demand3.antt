@@ -9,8 +9,8 @@ use mir.Val.{SFits}
 use Rattle.basis.specs.Basis.{basis}
 use Rattle.forward.specs.Sum.{total}
 use Rattle.quantize.specs.Quantize.{divisorOf}
-use Rattle.fdct.specs.Fdct.{coefficients}
-use Rattle.dequantize.specs.Dequantize.{dequantized}
+use Rattle.forward.specs.Canonical.{coefficients}
+use Rattle.stored_coefficients.specs.Dequantize.{dequantized}
 use Rattle.passes.specs.Passes.{eight}
 use Rattle.block.specs.Block.{block}
 use Rattle.energy.specs.Difference.{squaredDifferences, squaredDivisors}

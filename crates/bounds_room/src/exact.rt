@@ -1,24 +1,19 @@
-// What both bounds are made of, in 64 bits. A sum here is below 2^46, so nothing wraps.
+// What both bounds are made of, in 64 bits.
+ghost use Prim.Native.Nat.{_≤_};
 use word_i64::wrapping_mul_u64;
 
-fn wide(value: u8) -> u64 {
-    value as u64
+// The size of the difference of two bytes.
+pub fn apart(a: u8, b: u8) -> u64
+    ensures { λ r. ⌜ r ≤ 255 ⌝ }
+{
+    if a < b {
+        (b - a) as u64
+    } else {
+        (a - b) as u64
+    }
 }
 
-pub fn product(a: u64, b: u64) -> u64 {
-    wrapping_mul_u64(a, b)
-}
-
-pub fn sum(a: u64, b: u64) -> u64 {
-    std::num::wrapping_add_u64(a, b)
-}
-
-// The size of the difference of two samples.
-pub fn apart(a: u8, b: u8) -> u64 {
-    if a < b { wide(b - a) } else { wide(a - b) }
-}
-
-// d = max(1, quantizer)
-pub fn divisor(quantizer: u8) -> u64 {
-    if quantizer == 0 { 1 } else { wide(quantizer) }
+// total + a * b. No sum here reaches 2^46, so nothing wraps.
+pub fn plus_product(total: u64, a: u64, b: u64) -> u64 {
+    std::num::wrapping_add_u64(total, wrapping_mul_u64(a, b))
 }

@@ -1,4 +1,4 @@
-// What the search found.
+// What the search found. No quantizer of the two tables is 0, so each is its own divisor.
 
 // Two blocks as far above 128 as below it, so that each scaled sum of the one is that of the other, negated; and a table whose
 // divisors are the least above the distance of the two sums, over 2^32. So every coefficient of both is 0.

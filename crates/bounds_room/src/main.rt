@@ -6,7 +6,10 @@ mod found;
 mod near;
 mod print;
 
+use libc::STDOUT_FILENO;
+
 fn main() {
     alike::report();
     near::report();
+    io::write_all(STDOUT_FILENO, b"\n");
 }

@@ -1,10 +1,7 @@
 // What the lines are made of.
 use libc::STDOUT_FILENO;
 
-pub fn text(bytes: &[u8]) {
-    io::write_all(STDOUT_FILENO, bytes);
-}
-
-pub fn decimal(n: u64) {
+pub fn item(label: &[u8], n: u64) {
+    io::write_all(STDOUT_FILENO, label);
     io::print_decimal(STDOUT_FILENO, n);
 }

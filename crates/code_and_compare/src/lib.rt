@@ -2,12 +2,13 @@
 // (document 01, "Demand 3 in numbers"). The theorem over the definitions is `demand-3` of the crate `bounds`.
 ghost use mathlib.Core.Path.{_≡_};
 ghost use mathlib.Core.Bool.{true};
-ghost use Rattle.fdct.specs.Fdct.{coefficients};
+ghost use Rattle.forward.specs.Canonical.{coefficients};
 ghost use Rattle.bounds.specs.Demand3.{Alike};
-ghost use Rattle.code_and_compare.specs.Calls.{comparedStatus, comparedAnswer, written};
+ghost use Rattle.refusals.specs.Refusals.{written};
+ghost use Rattle.bounds.specs.Calls.{comparedAnswer};
 use fdct::fdct_quantize;
-use stored_blocks::Answer;
 use stored_blocks::same;
+use stored_coefficients::Answer;
 
 // Codes two blocks under one table and compares their coefficients. Where they are the same the blocks are alike.
 pub fn code_and_compare(
@@ -18,8 +19,8 @@ pub fn code_and_compare(
     out_b: &mut [i16],
 ) -> Answer
     ensures { λ r. ⌜ r ≡ comparedAnswer (now (a .entry)) (now (b .entry)) (now (quant .entry)) (now («out_a» .entry)) (now («out_b» .entry)) ⌝ }
-    ensures { λ _. ⌜ now («out_a» .exit) ≡ written (comparedStatus (now (a .entry)) (now (b .entry)) (now (quant .entry)) (now («out_a» .entry)) (now («out_b» .entry))) (coefficients (now (a .entry)) (now (quant .entry))) (now («out_a» .entry)) ⌝ }
-    ensures { λ _. ⌜ now («out_b» .exit) ≡ written (comparedStatus (now (a .entry)) (now (b .entry)) (now (quant .entry)) (now («out_a» .entry)) (now («out_b» .entry))) (coefficients (now (b .entry)) (now (quant .entry))) (now («out_b» .entry)) ⌝ }
+    ensures { λ r. ⌜ now («out_a» .exit) ≡ written (r .status) (coefficients (now (a .entry)) (now (quant .entry))) (now («out_a» .entry)) ⌝ }
+    ensures { λ r. ⌜ now («out_b» .exit) ≡ written (r .status) (coefficients (now (b .entry)) (now (quant .entry))) (now («out_b» .entry)) ⌝ }
     ensures { λ r. ⌜ (r .yes ≡ true → Alike (now (quant .entry)) (now (a .entry)) (now (b .entry))) ⌝ }
 {
     if a.len() != 64 {

@@ -10,21 +10,25 @@ use borrow.Author.Tests.{eq-eqb, ne-eqb}
 use lib.ListN.{length, take, drop, replicate, length-append, length-drop}
 use lib.Seq.{take-all}
 use lib.IntN.{ℤ, pos}
-use Rattle.fdct.specs.Fdct.{coefficients}
-use Rattle.fdct.specs.Fdct.{after as fdct-after}
+use Rattle.refusals.specs.Refusals.{status, written as coded}
+use Rattle.refusals.proofs.Refusals.{accepted-writes}
+use Rattle.forward.specs.Canonical.{coefficients}
 use Rattle.coefficient_text.specs.declared.Printed.{Printed}
-use Rattle.decimal_lines.specs.Stores.{Wrote}
-use Rattle.decimal_lines.specs.Lines.{numbers}
-use Rattle.coefficient_text.specs.Text.{accepted, refusal, text, printed, after}
-use Rattle.decimal_lines.proofs.Stores.{wrote-all}
+use Rattle.coefficient_lines.specs.Stores.{Wrote}
+use Rattle.coefficient_lines.specs.Lines.{numbers}
+use Rattle.coefficient_lines.specs.Text.{accepted, refusal, text}
+use Rattle.coefficient_text.specs.Answer.{printed, after}
+use Rattle.coefficient_lines.proofs.Stores.{wrote-all}
 
 -- what the samples, the part of the input from place 11 on, give
-pub written : (input : List ℕ) → length input ≡ 75
-    → fdct-after (take (length input - 11) (drop 11 input)) (replicate 64 1) (replicate 64 (pos 0)) ≡ coefficients (drop 11 input) (replicate 64 1)
-unfolding fdct-after
-written input h =
+pub written : (input : List ℕ) {r : ℕ} {left : List ℤ} → length input ≡ 75 →
+    (let samples = take (length input - 11) (drop 11 input) in
+    (r ≡ status {B = ℕ} samples (replicate 64 1) (replicate 64 (pos 0))) × (left ≡ coded r (coefficients samples (replicate 64 1)) (replicate 64 (pos 0))))
+    → left ≡ coefficients (drop 11 input) (replicate 64 1)
+written input h e =
     let samples : length (drop 11 input) ≡ 64 = simp length-drop (omega arith) in
-    rw (take-all (length input - 11) (drop 11 input) (omega arith), eq-eqb (length (drop 11 input)) 64 samples)
+    let all = take-all (length input - 11) (drop 11 input) (omega arith) in
+    accepted-writes {B = ℕ} (take (length input - 11) (drop 11 input)) (replicate 64 1) (replicate 64 (pos 0)) _ (ap (λ (l : List ℕ). length l) all ∙ samples) refl refl e ∙ ap (λ (l : List ℕ). coefficients l (replicate 64 1)) all
 
 -- the clauses of the contract
 abbrev Answers : List ℕ → List ℕ → ℕ → ℕ → List ℕ → Type 0

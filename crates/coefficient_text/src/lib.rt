@@ -5,7 +5,8 @@
 ghost use mathlib.Core.Path.{_≡_};
 ghost use Prim.Native.Nat.{_≤_};
 ghost use lib.ListN.{length};
-ghost use Rattle.coefficient_text.specs.Text.{accepted, printed, after};
+ghost use Rattle.coefficient_lines.specs.Text.{accepted};
+ghost use Rattle.coefficient_text.specs.Answer.{printed, after};
 use decimal_lines::LINES;
 use decimal_lines::put_numbers;
 use fdct::fdct_quantize;

@@ -1,2 +1,1 @@
-pub mod DcSum
-pub mod Record
+pub mod Words

@@ -5,10 +5,10 @@ ghost use Prim.Native.Nat.{_<_, _^_};
 ghost use lib.ListN.{length};
 ghost use lib.IntN.{pos, natAbs, _-ℤ_, _*ℤ_};
 ghost use Rattle.quantize.specs.Quantize.{coefficient};
-ghost use Rattle.quantized_block.specs.Record.{recordOf};
-ghost use Rattle.constant_block.specs.Constant.{constant, onlyDc};
+ghost use Rattle.quantized_record.specs.Record.{recordOf};
+ghost use Rattle.guarded_quantizer.specs.Constant.{constant, onlyDc};
 use quantize::quantize;
-use quantized_block::QuantizedBlock;
+use quantized_record::QuantizedBlock;
 
 // Whether the 64 samples are equal. No branch for each, so that the compiler tests many at once.
 pub fn all_equal(block: &[u8]) -> bool

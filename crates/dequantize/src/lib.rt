@@ -6,7 +6,8 @@ ghost use Prim.Native.Nat.{_≤_};
 ghost use lib.ListN.{length};
 ghost use lib.IntN.{pos, natAbs, _*ℤ_};
 ghost use Rattle.quantize.specs.Quantize.{divisorOf};
-ghost use Rattle.dequantize.specs.Dequantize.{dequantized, status, after};
+ghost use Rattle.refusals.specs.Refusals.{status, written};
+ghost use Rattle.stored_coefficients.specs.Dequantize.{dequantized};
 use quantize::divisor;
 
 // A coefficient times its divisor.
@@ -32,7 +33,7 @@ fn write_products(coefficients: &[i16], quant: &[u8], out: &mut [i32])
 
 pub fn dequantize(coefficients: &[i16], quant: &[u8], out: &mut [i32]) -> u32
     ensures { λ r. ⌜ r ≡ status (now (coefficients .entry)) (now (quant .entry)) (now (out .entry)) ⌝ }
-    ensures { λ _. ⌜ now (out .exit) ≡ after (now (coefficients .entry)) (now (quant .entry)) (now (out .entry)) ⌝ }
+    ensures { λ r. ⌜ now (out .exit) ≡ written r (dequantized (now (coefficients .entry)) (now (quant .entry))) (now (out .entry)) ⌝ }
 {
     if coefficients.len() != 64 {
         return 1;

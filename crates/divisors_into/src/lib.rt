@@ -5,8 +5,9 @@ ghost use mathlib.Core.Path.{_≡_};
 ghost use lib.ListN.{length, getD};
 ghost use lib.Ieee.{nan};
 ghost use Rattle.lists.specs.Tab.{tab};
-ghost use Rattle.aan.specs.Divisors.{divisorsAnswer};
-ghost use Rattle.divisors_into.specs.Into.{written, madeStatus};
+ghost use Rattle.guarded_floats.specs.Divisors.{divisorsAnswer};
+ghost use Rattle.refusals.specs.Refusals.{written};
+ghost use Rattle.guarded_floats.specs.Into.{madeStatus};
 use aan::quantization_divisors;
 
 fn put_reciprocals(from: &[f64; 64], to: &mut [f64])

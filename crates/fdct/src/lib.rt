@@ -7,15 +7,11 @@ ghost use Prim.Native.Nat.{ℕ, _≤_};
 ghost use lib.ListN.{length, getD};
 ghost use lib.IntN.{ℤ, pos, natAbs, _-ℤ_};
 ghost use Rattle.forward.specs.Forward.{centredBlock};
-ghost use Rattle.fdct.specs.Fdct.{status, after, coefficientAnswer};
+ghost use Rattle.refusals.specs.Refusals.{status, written};
+ghost use Rattle.forward.specs.Canonical.{coefficients, coefficientAnswer};
 use fdct_block::write_coefficients;
 use fdct_coefficient::coefficient_at;
-
-// What `fdct_quantize_coefficient` answers: status 0 and the coefficient, or a refusal's number and 0.
-pub struct Coefficient {
-    pub status: u32,
-    pub value: i16,
-}
+use forward::Coefficient;
 
 // The sample less 128.
 fn centred(sample: u8) -> i16
@@ -60,7 +56,7 @@ fn widen(quant: &[u8]) -> [u16; 64]
 
 pub fn fdct_quantize(block: &[u8], quant: &[u8], out: &mut [i16]) -> u32
     ensures { λ r. ⌜ r ≡ status (now (block .entry)) (now (quant .entry)) (now (out .entry)) ⌝ }
-    ensures { λ _. ⌜ now (out .exit) ≡ after (now (block .entry)) (now (quant .entry)) (now (out .entry)) ⌝ }
+    ensures { λ r. ⌜ now (out .exit) ≡ written r (coefficients (now (block .entry)) (now (quant .entry))) (now (out .entry)) ⌝ }
 {
     if block.len() != 64 {
         return 1;

@@ -1,2 +1,1 @@
 pub mod ByColumns
-pub mod Values

@@ -7,7 +7,7 @@ ghost use lib.ListN.{length, getD};
 ghost use lib.Ieee.{nan};
 ghost use Rattle.lists.specs.Tab.{tab};
 ghost use Rattle.fdct_8.specs.Transform.{fdct8};
-ghost use Rattle.fdct_values.specs.Values.{row, fdctValues};
+ghost use Rattle.guarded_floats.specs.Values.{row, fdctValues};
 use fdct_8::fdct_8;
 
 // Row y of a block, each sample less 128.

@@ -2,3 +2,4 @@ pub mod Sum
 pub mod Folding
 pub mod Scaled
 pub mod Parity
+pub mod Canonical

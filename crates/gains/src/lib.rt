@@ -2,6 +2,8 @@
 //
 // A 1-D transform is a matrix of gains, in units of 2^-CONST_BITS for 8 points and of half and a quarter of that for 4 and 2.
 // The matrices are in specs/; the law by which a butterfly's steps make up a matrix is in proofs/, over the width.
+pub mod fix_i64;
+
 ghost use mathlib.Core.Path.{_≡_};
 ghost use Rattle.gains.specs.Gains.{gains};
 ghost use Rattle.gains.specs.Bounds.{gainBounds};

@@ -12,14 +12,14 @@ ghost use Rattle.lists.specs.Tab.{tab};
 ghost use Rattle.forward.specs.Forward.{scaledSum};
 ghost use Rattle.quantize.specs.Quantize.{coefficient};
 ghost use Rattle.binary64.specs.Binary64.{nearHalf, roundedToI16};
-ghost use Rattle.guarded.specs.Guarded.{guarded};
-use binary64::near_half;
-use binary64::round_to_i16;
+ghost use Rattle.guarded_quantizer.specs.Guarded.{guarded};
+use binary64_bits::near_half;
+use binary64_bits::round_to_i16;
 use fdct::fdct_quantize_coefficient;
 use fdct_values::fdct_values;
 
 // 2^36 + 32768.5. A value smaller than 32767 in size, added to it, gives a sum from 2^36 to 2^37, where floats are 2^-16 apart: the lower
-// 52 bits of the sum are the value + 32768.5 in units of 2^-16, at most one unit off (`settled-point` of crate binary64_sum).
+// 52 bits of the sum are the value + 32768.5 in units of 2^-16, at most one unit off (`settled-point` of crate binary64).
 const ROUNDING: f64 = 68_719_509_504.5;
 
 fn canonical_coefficient(block: &[u8], quantizer: u8, n: usize) -> i16

@@ -6,36 +6,22 @@ ghost use mathlib.Core.Path.{_≡_};
 ghost use mir.Syntax.{w64};
 ghost use Rattle.integers.specs.Linear.{transform};
 ghost use Rattle.gains.specs.Gains.{gains};
+use gains::fix_i64::FIX_0_298631336;
+use gains::fix_i64::FIX_0_390180644;
+use gains::fix_i64::FIX_0_541196100;
+use gains::fix_i64::FIX_0_765366865;
+use gains::fix_i64::FIX_0_899976223;
+use gains::fix_i64::FIX_1;
+use gains::fix_i64::FIX_1_175875602;
+use gains::fix_i64::FIX_1_501321110;
+use gains::fix_i64::FIX_1_847759065;
+use gains::fix_i64::FIX_1_961570560;
+use gains::fix_i64::FIX_2_053119869;
+use gains::fix_i64::FIX_2_562915447;
+use gains::fix_i64::FIX_3_072711026;
 use word_i64::wrapping_add_i64 as add;
 use word_i64::wrapping_mul_i64 as mul;
 use word_i64::wrapping_sub_i64 as sub;
-
-// The constants at 64 bits (idct.rs, `fix_i64`).
-const FIX_1: i64 = gains::FIX_1 as i64;
-
-const FIX_0_298631336: i64 = gains::FIX_0_298631336 as i64;
-
-const FIX_0_390180644: i64 = gains::FIX_0_390180644 as i64;
-
-const FIX_0_541196100: i64 = gains::FIX_0_541196100 as i64;
-
-const FIX_0_765366865: i64 = gains::FIX_0_765366865 as i64;
-
-const FIX_0_899976223: i64 = gains::FIX_0_899976223 as i64;
-
-const FIX_1_175875602: i64 = gains::FIX_1_175875602 as i64;
-
-const FIX_1_501321110: i64 = gains::FIX_1_501321110 as i64;
-
-const FIX_1_847759065: i64 = gains::FIX_1_847759065 as i64;
-
-const FIX_1_961570560: i64 = gains::FIX_1_961570560 as i64;
-
-const FIX_2_053119869: i64 = gains::FIX_2_053119869 as i64;
-
-const FIX_2_562915447: i64 = gains::FIX_2_562915447 as i64;
-
-const FIX_3_072711026: i64 = gains::FIX_3_072711026 as i64;
 
 // The 8-point transform (jidctint.c).
 pub fn islow_1d_i64(p: [i64; 8]) -> [i64; 8]

@@ -6,42 +6,25 @@ ghost use mathlib.Core.Path.{_≡_};
 ghost use mir.Syntax.{w64};
 ghost use Rattle.integers.specs.Linear.{transform};
 ghost use Rattle.gains.specs.Gains.{gains4, gains2};
+use gains::fix_i64::FIX_0_211164243;
+use gains::fix_i64::FIX_0_509795579;
+use gains::fix_i64::FIX_0_601344887;
+use gains::fix_i64::FIX_0_720959822;
+use gains::fix_i64::FIX_0_765366865;
+use gains::fix_i64::FIX_0_850430095;
+use gains::fix_i64::FIX_0_899976223;
+use gains::fix_i64::FIX_1_061594337;
+use gains::fix_i64::FIX_1_272758580;
+use gains::fix_i64::FIX_1_451774981;
+use gains::fix_i64::FIX_1_847759065;
+use gains::fix_i64::FIX_2;
+use gains::fix_i64::FIX_2_172734803;
+use gains::fix_i64::FIX_2_562915447;
+use gains::fix_i64::FIX_3_624509785;
+use gains::fix_i64::FIX_4;
 use word_i64::wrapping_add_i64 as add;
 use word_i64::wrapping_mul_i64 as mul;
 use word_i64::wrapping_sub_i64 as sub;
-
-// The constants at 64 bits (idct.rs, `fix_i64`).
-const FIX_2: i64 = gains::FIX_2 as i64;
-
-const FIX_4: i64 = gains::FIX_4 as i64;
-
-const FIX_0_765366865: i64 = gains::FIX_0_765366865 as i64;
-
-const FIX_0_899976223: i64 = gains::FIX_0_899976223 as i64;
-
-const FIX_1_847759065: i64 = gains::FIX_1_847759065 as i64;
-
-const FIX_2_562915447: i64 = gains::FIX_2_562915447 as i64;
-
-const FIX_0_211164243: i64 = gains::FIX_0_211164243 as i64;
-
-const FIX_0_509795579: i64 = gains::FIX_0_509795579 as i64;
-
-const FIX_0_601344887: i64 = gains::FIX_0_601344887 as i64;
-
-const FIX_0_720959822: i64 = gains::FIX_0_720959822 as i64;
-
-const FIX_0_850430095: i64 = gains::FIX_0_850430095 as i64;
-
-const FIX_1_061594337: i64 = gains::FIX_1_061594337 as i64;
-
-const FIX_1_272758580: i64 = gains::FIX_1_272758580 as i64;
-
-const FIX_1_451774981: i64 = gains::FIX_1_451774981 as i64;
-
-const FIX_2_172734803: i64 = gains::FIX_2_172734803 as i64;
-
-const FIX_3_624509785: i64 = gains::FIX_3_624509785 as i64;
 
 // The 4-point reduced transform (jpeg_idct_4x4 in jidctred.c). It does not read p[4].
 pub fn islow_1d_4_i64(p: [i64; 8]) -> [i64; 4]

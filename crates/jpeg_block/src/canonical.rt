@@ -1,6 +1,7 @@
 // The canonical forward transform with quantizing (crate fdct).
 ghost use mathlib.Core.Path.{_≡_};
-ghost use Rattle.fdct.specs.Fdct.{status, after, coefficientAnswer};
+ghost use Rattle.refusals.specs.Refusals.{status, written};
+ghost use Rattle.forward.specs.Canonical.{coefficients, coefficientAnswer};
 ghost use Rattle.place.specs.Place.{placeStatus, placeAfter};
 use fdct::fdct_quantize;
 use fdct::fdct_quantize_coefficient;
@@ -9,7 +10,7 @@ use place::place_i16;
 #[no_mangle]
 pub extern "C" fn jpeg_block_fdct_quantize(block: &[u8], quant: &[u8], out: &mut [i16]) -> u32
     ensures { λ r. ⌜ r ≡ status (now (block .entry)) (now (quant .entry)) (now (out .entry)) ⌝ }
-    ensures { λ _. ⌜ now (out .exit) ≡ after (now (block .entry)) (now (quant .entry)) (now (out .entry)) ⌝ }
+    ensures { λ r. ⌜ now (out .exit) ≡ written r (coefficients (now (block .entry)) (now (quant .entry))) (now (out .entry)) ⌝ }
 {
     fdct_quantize(block, quant, out)
 }

@@ -1,10 +1,11 @@
 // The guarded quantizer and its divisors (crates transform_into and divisors_into).
 ghost use mathlib.Core.Path.{_≡_};
 ghost use mathlib.Core.List.{[], _∷_};
-ghost use Rattle.aan.specs.Divisors.{divisorsAnswer};
-ghost use Rattle.transform.specs.Guarded.{guardedAnswer};
-ghost use Rattle.divisors_into.specs.Into.{written, madeStatus};
-ghost use Rattle.transform_into.specs.Into.{guardedStatus};
+ghost use Rattle.guarded_floats.specs.Divisors.{divisorsAnswer};
+ghost use Rattle.refusals.specs.Refusals.{written};
+ghost use Rattle.guarded_floats.specs.Into.{madeStatus};
+ghost use Rattle.guarded_quantizer.specs.Answer.{guardedAnswer};
+ghost use Rattle.guarded_quantizer.specs.Into.{guardedStatus};
 use divisors_into::quantization_divisors_into;
 use transform_into::fdct_quantize_into;
 

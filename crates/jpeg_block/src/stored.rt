@@ -1,7 +1,8 @@
 // Blocks of stored coefficients (crates dequantize and stored_blocks).
 ghost use mathlib.Core.Path.{_≡_};
-ghost use Rattle.dequantize.specs.Dequantize.{status, after};
-ghost use Rattle.stored_blocks.specs.Stored.{screenAnswer, sameAnswer};
+ghost use Rattle.refusals.specs.Refusals.{status, written};
+ghost use Rattle.stored_coefficients.specs.Dequantize.{dequantized};
+ghost use Rattle.stored_coefficients.specs.Stored.{screenAnswer, sameAnswer};
 ghost use Rattle.place.specs.Place.{placeStatus, placeAfter, word};
 use dequantize::dequantize;
 use place::place_bool;
@@ -11,7 +12,7 @@ use stored_blocks::screen;
 #[no_mangle]
 pub extern "C" fn jpeg_block_dequantize(coefficients: &[i16], quant: &[u8], out: &mut [i32]) -> u32
     ensures { λ r. ⌜ r ≡ status (now (coefficients .entry)) (now (quant .entry)) (now (out .entry)) ⌝ }
-    ensures { λ _. ⌜ now (out .exit) ≡ after (now (coefficients .entry)) (now (quant .entry)) (now (out .entry)) ⌝ }
+    ensures { λ r. ⌜ now (out .exit) ≡ written r (dequantized (now (coefficients .entry)) (now (quant .entry))) (now (out .entry)) ⌝ }
 {
     dequantize(coefficients, quant, out)
 }

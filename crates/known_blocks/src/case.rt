@@ -12,17 +12,6 @@ struct Scan {
     inside: bool,
 }
 
-// 10 where the byte is no digit.
-fn digit(byte: u8) -> u8 {
-    if byte < b'0' {
-        return 10;
-    }
-    if byte > b'9' {
-        return 10;
-    }
-    byte - b'0'
-}
-
 // One more digit. A number that does not fit is the largest.
 fn append(value: u64, digit: u8) -> u64 {
     if value > 1_844_674_407_370_955_136 {
@@ -43,20 +32,19 @@ fn counted(ended: usize, inside: bool) -> usize {
 }
 
 fn step(scan: Scan, byte: u8) -> Scan {
-    let digit = digit(byte);
-    if digit < 10 {
+    if byte < b'0' || byte > b'9' {
         return Scan {
-            ended: scan.ended,
-            value: append(scan.value, digit),
-            minus: scan.minus,
-            inside: true,
+            ended: counted(scan.ended, scan.inside),
+            value: 0,
+            minus: byte == b'-',
+            inside: false,
         };
     }
     Scan {
-        ended: counted(scan.ended, scan.inside),
-        value: 0,
-        minus: byte == b'-',
-        inside: false,
+        ended: scan.ended,
+        value: append(scan.value, byte - b'0'),
+        minus: scan.minus,
+        inside: true,
     }
 }
 

@@ -5,14 +5,14 @@ mod call;
 mod case;
 mod show;
 
-use show::text;
+use libc::STDOUT_FILENO;
 
 fn answer(name: &[u8], function: usize, line: &[u8]) {
-    text(name);
-    text(b" ");
-    text(line);
+    io::write_all(STDOUT_FILENO, name);
+    io::write_all(STDOUT_FILENO, b" ");
+    io::write_all(STDOUT_FILENO, line);
     call::call(function, &case::numbers(line));
-    text(b"\n");
+    io::write_all(STDOUT_FILENO, b"\n");
 }
 
 // A line that starts with # says why cases are there.

@@ -1,66 +1,71 @@
 // Prints an answer: its refusal and its numbers, where equal ones that follow each other are their
 // count and the number.
+ghost use Prim.Native.Nat.{_≤_};
+ghost use lib.ListN.{length};
 use crate::call::ROOM;
 use libc::STDOUT_FILENO;
 
-pub fn text(bytes: &[u8]) {
-    io::write_all(STDOUT_FILENO, bytes);
+// Equal numbers that follow each other. An answer starts with none, and has at least one number.
+struct Run {
+    count: u64,
+    value: i32,
 }
 
-fn decimal(n: u32) {
-    io::print_decimal(STDOUT_FILENO, n as u64);
+fn refusal(status: u32) {
+    if status != 0 {
+        io::write_all(STDOUT_FILENO, b" | refused ");
+        io::print_decimal(STDOUT_FILENO, status as u64);
+    }
 }
 
 fn number(n: i32) {
     let bits = bits::to_bits_i32(n);
     if n < 0 {
-        text(b"-");
-        decimal(std::num::wrapping_sub_u32(0, bits));
+        io::write_all(STDOUT_FILENO, b"-");
+        io::print_decimal(STDOUT_FILENO, std::num::wrapping_sub_u32(0, bits) as u64);
     } else {
-        decimal(bits);
+        io::print_decimal(STDOUT_FILENO, bits as u64);
     }
 }
 
-fn refusal(status: u32) {
-    if status != 0 {
-        text(b" | refused ");
-        decimal(status);
-    }
-}
-
-fn times(count: usize) {
+fn times(count: u64) {
     if count > 1 {
-        io::print_decimal(STDOUT_FILENO, count as u64);
-        text(b" of ");
+        io::print_decimal(STDOUT_FILENO, count);
+        io::write_all(STDOUT_FILENO, b" of ");
     }
 }
 
-fn equal(count: usize, value: i32) {
-    text(b" | ");
-    times(count);
-    number(value);
+fn end(run: Run) {
+    io::write_all(STDOUT_FILENO, b" | ");
+    times(run.count);
+    number(run.value);
 }
 
-fn follows(values: &[i32], i: usize, value: i32) -> bool {
-    if i < values.len() {
-        return values[i] == value;
-    }
-    false
-}
-
-pub fn show(status: u32, values: &[i32]) {
-    refusal(status);
-    let mut count = 0;
-    let mut i = 0;
-    while i < values.len() {
-        let value = values[i];
-        i += 1;
-        count += 1;
-        if !follows(values, i, value) {
-            equal(count, value);
-            count = 0;
+// Prints the run where the next number ends it.
+fn with(run: Run, next: i32) -> Run {
+    if run.count > 0 {
+        if run.value == next {
+            return Run {
+                count: std::num::wrapping_add_u64(run.count, 1),
+                value: next,
+            };
         }
+        end(run);
     }
+    Run {
+        count: 1,
+        value: next,
+    }
+}
+
+fn start(status: u32) -> Run {
+    refusal(status);
+    Run { count: 0, value: 0 }
+}
+
+pub fn show_one(status: u32, value: i32) {
+    refusal(status);
+    end(Run { count: 1, value });
 }
 
 fn small(value: u8) -> i32 {
@@ -71,7 +76,7 @@ fn sample(value: u16) -> i32 {
     value as i32
 }
 
-fn wide(value: i16) -> i32 {
+pub fn wide(value: i16) -> i32 {
     value as i32
 }
 
@@ -79,52 +84,53 @@ pub fn one_if(yes: bool) -> i32 {
     if yes { 1 } else { 0 }
 }
 
-pub fn show_u8(status: u32, values: &[u8]) {
-    let mut list = [0i32; ROOM];
+pub fn show_u8(status: u32, values: &[u8; ROOM]) {
+    let mut run = start(status);
     let mut i = 0;
-    while i < values.len() {
-        if i >= ROOM {
-            break;
-        }
-        list[i] = small(values[i]);
+    while i < ROOM {
+        run = with(run, small(values[i]));
         i += 1;
     }
-    show(status, &list[..i]);
+    end(run);
 }
 
-pub fn show_u16(status: u32, values: &[u16]) {
-    let mut list = [0i32; ROOM];
+pub fn show_u16(status: u32, values: &[u16; ROOM]) {
+    let mut run = start(status);
     let mut i = 0;
-    while i < values.len() {
-        if i >= ROOM {
-            break;
-        }
-        list[i] = sample(values[i]);
+    while i < ROOM {
+        run = with(run, sample(values[i]));
         i += 1;
     }
-    show(status, &list[..i]);
+    end(run);
 }
 
 pub fn show_i16(status: u32, values: &[i16]) {
-    let mut list = [0i32; ROOM];
+    let mut run = start(status);
     let mut i = 0;
     while i < values.len() {
-        if i >= ROOM {
-            break;
-        }
-        list[i] = wide(values[i]);
+        run = with(run, wide(values[i]));
         i += 1;
     }
-    show(status, &list[..i]);
+    end(run);
+}
+
+pub fn show_i32(status: u32, values: &[i32; ROOM]) {
+    let mut run = start(status);
+    let mut i = 0;
+    while i < ROOM {
+        run = with(run, values[i]);
+        i += 1;
+    }
+    end(run);
 }
 
 // 1 for each number that is not 0.
 pub fn show_f64(status: u32, values: &[f64; 64]) {
-    let mut list = [0i32; 64];
+    let mut run = start(status);
     let mut i = 0;
     while i < 64 {
-        list[i] = one_if(values[i] != 0.0);
+        run = with(run, one_if(values[i] != 0.0));
         i += 1;
     }
-    show(status, &list);
+    end(run);
 }

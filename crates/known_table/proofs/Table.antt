@@ -8,7 +8,7 @@ use Rattle.lists.specs.Tab.{tab}
 use Rattle.lists.proofs.Tab.{tab-ext}
 use Rattle.gram.proofs.Equal.{basisSums, equal-sum}
 use Rattle.quantize.specs.Quantize.{divisorOf, rounded, withSign, coefficient}
-use Rattle.fdct.specs.Fdct.{canonical, coefficients}
+use Rattle.forward.specs.Canonical.{canonical, coefficients}
 use Rattle.integers.specs.Wrap.{modulo, wrap}
 use Rattle.integers.specs.Linear.{dot, transform, zeroAt}
 use Rattle.gains.specs.Gains.{mirror, mirrored, upper, gains}

@@ -7,8 +7,8 @@ use lib.ListN.{replicate}
 use lib.IntN.{ℤ}
 use Rattle.lists.specs.Tab.{tab}
 use Rattle.quantize.specs.Quantize.{divisorOf, rounded, withSign, coefficient}
-use Rattle.decimal_lines.specs.Lines.{digits, decimal, separator, numbers}
-use Rattle.coefficient_text.specs.Text.{header, same, accepted, text}
+use Rattle.coefficient_lines.specs.Lines.{digits, decimal, separator, numbers}
+use Rattle.coefficient_lines.specs.Text.{header, same, accepted, text}
 use Rattle.known_table.proofs.Table.{equal, equal-coefficients}
 
 -- " 0 0 0 0 0 0 0\n"

@@ -5,7 +5,7 @@ use mathlib.Core.Path.{_≡_}
 use Prim.Native.Nat.{ℕ}
 use lib.ListN.{replicate}
 use lib.IntN.{ℤ, pos, negℤ}
-use Rattle.fdct.specs.Fdct.{coefficients}
+use Rattle.forward.specs.Canonical.{coefficients}
 use Rattle.passes.specs.Passes.{eight}
 use Rattle.block.specs.Block.{block, block12bit}
 

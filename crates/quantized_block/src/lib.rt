@@ -1,19 +1,12 @@
-// The record of a quantized block (transform.rs, `QuantizedBlock`; document 01, "The guarded quantizer").
+// The record of a quantized block, made from its coefficients (transform.rs, `QuantizedBlock`; document 01, "The guarded quantizer").
 ghost use mathlib.Core.Path.{_≡_};
 ghost use Prim.Native.Nat.{_≤_, _<_, _-_};
 ghost use lib.ListN.{getD};
 ghost use lib.IntN.{pos};
-ghost use Rattle.quantized_block.specs.Bitmap.{withBit, nonzero};
-ghost use Rattle.quantized_block.specs.Record.{recordOf};
+ghost use Rattle.quantized_record.specs.Bitmap.{withBit, nonzero};
+ghost use Rattle.quantized_record.specs.Record.{recordOf};
+use quantized_record::QuantizedBlock;
 use zigzag::zigzag;
-
-pub struct QuantizedBlock {
-    pub dc: i16,
-    // In zigzag order; place 0 is 0.
-    pub ac_coefficients: [i16; 64],
-    // Bit 64 - z is set where place z is not 0.
-    pub nonzero_ac: u64,
-}
 
 // 1 for a coefficient that is not 0.
 fn nonzero_bit(coefficient: i16) -> u64

@@ -1,15 +1,13 @@
 // A function's answers against those of a case, at `at`. They are compared bit for bit, so that a
-// fault in how the inputs are decoded cannot hide a difference.
+// fault in how the inputs are decoded cannot hide a difference. A refusal, a status that is not 0,
+// differs too.
 ghost use Prim.Native.Nat.{_+_, _≤_};
+ghost use lib.ListN.{length};
 use crate::decode::ROOM;
-use crate::decode::index;
-use crate::decode::u8_at;
-use crate::decode::u16_at;
-use crate::decode::u32_at;
-use crate::decode::u64_at;
+use crate::decode::number;
 
 // The bits of x.
-fn to_bits_i16(x: i16) -> u16 {
+pub fn to_bits_i16(x: i16) -> u16 {
     if x >= 0 {
         x as u16
     } else {
@@ -25,152 +23,106 @@ fn bits_of(x: f64) -> u64 {
     f64::to_bits(x)
 }
 
-pub fn differs_u8(case: &[u8; ROOM], at: usize, answer: u8) -> bool
+pub fn differs_u8(status: u32, case: &[u8; ROOM], at: usize, answer: u8) -> bool
     requires { ⌜ at + 1 ≤ 1024 ⌝ }
 {
-    answer != u8_at(case, at)
+    status != 0 || case[at] != answer
 }
 
-pub fn differs_u16(case: &[u8; ROOM], at: usize, answer: u16) -> bool
+pub fn differs_u16(status: u32, case: &[u8; ROOM], at: usize, answer: u16) -> bool
     requires { ⌜ at + 2 ≤ 1024 ⌝ }
 {
-    answer != u16_at(case, at)
+    status != 0 || number(case, at, 2) != answer as u64
 }
 
-pub fn differs_i16(case: &[u8; ROOM], at: usize, answer: i16) -> bool
-    requires { ⌜ at + 2 ≤ 1024 ⌝ }
-{
-    to_bits_i16(answer) != u16_at(case, at)
-}
-
-pub fn differs_i32(case: &[u8; ROOM], at: usize, answer: i32) -> bool
+pub fn differs_i32(status: u32, case: &[u8; ROOM], at: usize, answer: i32) -> bool
     requires { ⌜ at + 4 ≤ 1024 ⌝ }
 {
-    bits::to_bits_i32(answer) != u32_at(case, at)
-}
-
-pub fn differs_i64(case: &[u8; ROOM], at: usize, answer: i64) -> bool
-    requires { ⌜ at + 8 ≤ 1024 ⌝ }
-{
-    bits::to_bits_i64(answer) != u64_at(case, at)
+    status != 0 || number(case, at, 4) != bits::to_bits_i32(answer) as u64
 }
 
 pub fn differs_u64(case: &[u8; ROOM], at: usize, answer: u64) -> bool
     requires { ⌜ at + 8 ≤ 1024 ⌝ }
 {
-    answer != u64_at(case, at)
+    number(case, at, 8) != answer
 }
 
-// Whether any of the answers differs. One that the case has no room for does.
-pub fn any_differs_u8(case: &[u8; ROOM], at: usize, answers: &[u8]) -> bool {
+pub fn any_differs_u8(status: u32, case: &[u8; ROOM], mut at: usize, answers: &[u8; 64]) -> bool
+    requires { ⌜ at + 64 ≤ 1024 ⌝ }
+{
+    let mut differs = false;
     let mut i = 0;
-    let mut at = at;
-    while i < answers.len() {
-        if at >= ROOM {
-            return true;
-        }
-        if differs_u8(case, at, answers[i]) {
-            return true;
-        }
-        i += 1;
+    while i < 64 {
+        differs = differs | differs_u8(status, case, at, answers[i]);
         at += 1;
+        i += 1;
     }
-    false
+    differs
 }
 
-pub fn any_differs_u16(case: &[u8; ROOM], at: usize, answers: &[u16]) -> bool {
+pub fn any_differs_u16(status: u32, case: &[u8; ROOM], mut at: usize, answers: &[u16; 64]) -> bool
+    requires { ⌜ at + 128 ≤ 1024 ⌝ }
+{
+    let mut differs = false;
     let mut i = 0;
-    let mut at = at;
-    while i < answers.len() {
-        if at > ROOM - 2 {
-            return true;
-        }
-        if differs_u16(case, at, answers[i]) {
-            return true;
-        }
-        i += 1;
+    while i < 64 {
+        differs = differs | differs_u16(status, case, at, answers[i]);
         at += 2;
+        i += 1;
     }
-    false
+    differs
 }
 
-pub fn any_differs_i16(case: &[u8; ROOM], at: usize, answers: &[i16]) -> bool {
+pub fn any_differs_i16(status: u32, case: &[u8; ROOM], mut at: usize, answers: &[i16; 64]) -> bool
+    requires { ⌜ at + 128 ≤ 1024 ⌝ }
+{
+    let mut differs = false;
     let mut i = 0;
-    let mut at = at;
-    while i < answers.len() {
-        if at > ROOM - 2 {
-            return true;
-        }
-        if differs_i16(case, at, answers[i]) {
-            return true;
-        }
-        i += 1;
+    while i < 64 {
+        differs = differs | differs_u16(status, case, at, to_bits_i16(answers[i]));
         at += 2;
+        i += 1;
     }
-    false
+    differs
 }
 
-pub fn any_differs_i32(case: &[u8; ROOM], at: usize, answers: &[i32]) -> bool {
+pub fn any_differs_i32(status: u32, case: &[u8; ROOM], mut at: usize, answers: &[i32]) -> bool
+    requires { ⌜ at + 256 ≤ 1024 ⌝ }
+    requires { ⌜ length (now answers) ≤ 64 ⌝ }
+{
+    let mut differs = false;
     let mut i = 0;
-    let mut at = at;
     while i < answers.len() {
-        if at > ROOM - 4 {
-            return true;
-        }
-        if differs_i32(case, at, answers[i]) {
-            return true;
-        }
-        i += 1;
+        differs = differs | differs_i32(status, case, at, answers[i]);
         at += 4;
+        i += 1;
     }
-    false
+    differs
 }
 
-pub fn any_differs_i64(case: &[u8; ROOM], at: usize, answers: &[i64]) -> bool {
+pub fn any_differs_i64(case: &[u8; ROOM], mut at: usize, answers: &[i64]) -> bool
+    requires { ⌜ at + 512 ≤ 1024 ⌝ }
+    requires { ⌜ length (now answers) ≤ 64 ⌝ }
+{
+    let mut differs = false;
     let mut i = 0;
-    let mut at = at;
     while i < answers.len() {
-        if at > ROOM - 8 {
-            return true;
-        }
-        if differs_i64(case, at, answers[i]) {
-            return true;
-        }
-        i += 1;
+        differs = differs | differs_u64(case, at, bits::to_bits_i64(answers[i]));
         at += 8;
+        i += 1;
     }
-    false
+    differs
 }
 
-pub fn any_differs_f64(case: &[u8; ROOM], at: usize, answers: &[f64]) -> bool {
+pub fn any_differs_f64(status: u32, case: &[u8; ROOM], mut at: usize, answers: &[f64; 64]) -> bool
+    requires { ⌜ at + 512 ≤ 1024 ⌝ }
+{
+    let mut differs = status != 0;
     let mut i = 0;
-    let mut at = at;
-    while i < answers.len() {
-        if at > ROOM - 8 {
-            return true;
-        }
-        if differs_u64(case, at, bits_of(answers[i])) {
-            return true;
-        }
-        i += 1;
+    while i < 64 {
+        differs = differs | differs_u64(case, at, bits_of(answers[i]));
         at += 8;
-    }
-    false
-}
-
-// The case has a byte for each.
-pub fn any_differs_usize(case: &[u8; ROOM], at: usize, answers: &[usize]) -> bool {
-    let mut i = 0;
-    let mut at = at;
-    while i < answers.len() {
-        if at >= ROOM {
-            return true;
-        }
-        if answers[i] != index(u8_at(case, at)) {
-            return true;
-        }
         i += 1;
-        at += 1;
     }
-    false
+    differs
 }

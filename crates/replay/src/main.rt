@@ -8,7 +8,6 @@ mod function;
 mod guarded_cases;
 mod islow_cases;
 mod scaling_cases;
-mod stored_cases;
 mod word_cases;
 
 ghost use Prim.Native.Nat.{_≤_};
@@ -74,31 +73,41 @@ enum Turn {
     End,
 }
 
-struct Tally {
-    cases: u64,
-    differences: u64,
-}
-
-// Reads the next case and runs it. A case that is cut short differs.
-fn next(fd: i32, function: usize, size: usize) -> Turn
-    requires { ⌜ size ≤ 1024 ⌝ }
-{
-    let mut case = [0u8; ROOM];
-    let got = io::read_full(fd, &mut case[..size]);
+// A case that is cut short differs.
+fn judge(function: usize, size: usize, case: &[u8; ROOM], got: usize) -> Turn {
     if got == 0 {
         return Turn::End;
     }
     if got != size {
         return Turn::Different;
     }
-    if function::differs(function, &case) {
+    if function::differs(function, case) {
         Turn::Different
     } else {
         Turn::Same
     }
 }
 
-fn count(fd: i32, function: usize, size: usize) -> Tally
+// Reads the next case and runs it.
+fn next(fd: i32, function: usize, size: usize) -> Turn
+    requires { ⌜ size ≤ 1024 ⌝ }
+{
+    let mut case = [0u8; ROOM];
+    let got = io::read_full(fd, &mut case[..size]);
+    judge(function, size, &case, got)
+}
+
+fn report(name: &[u8], cases: u64, differences: u64) {
+    io::write_all(STDOUT_FILENO, name);
+    io::write_all(STDOUT_FILENO, b" ");
+    io::print_decimal(STDOUT_FILENO, cases);
+    io::write_all(STDOUT_FILENO, b" cases ");
+    io::print_decimal(STDOUT_FILENO, differences);
+    io::write_all(STDOUT_FILENO, b" differences\n");
+}
+
+// Runs the cases of an opened file, and says how many there are and how many differ.
+fn count(name: &[u8], fd: i32, function: usize, size: usize)
     requires { ⌜ size ≤ 1024 ⌝ }
 {
     let mut cases: u64 = 0;
@@ -111,34 +120,32 @@ fn count(fd: i32, function: usize, size: usize) -> Tally
         }
         cases += 1;
     }
-    Tally { cases, differences }
+    report(name, cases, differences);
 }
 
-fn report(name: &[u8], tally: Tally) {
-    io::write_all(STDOUT_FILENO, name);
-    io::write_all(STDOUT_FILENO, b" ");
-    io::print_decimal(STDOUT_FILENO, tally.cases);
-    io::write_all(STDOUT_FILENO, b" cases ");
-    io::print_decimal(STDOUT_FILENO, tally.differences);
-    io::write_all(STDOUT_FILENO, b" differences\n");
+// The bytes of a case, and 0 where there is no such function.
+fn size_of(function: usize) -> usize
+    ensures { λ r. ⌜ r ≤ 1024 ⌝ }
+{
+    if function >= FUNCTIONS {
+        return 0;
+    }
+    let size = SIZES[function];
+    if size > ROOM {
+        return 0;
+    }
+    size
 }
 
 // The file of a function has its name. Where it cannot be read there are no cases.
 fn replay(name: &[u8], function: usize) {
-    if function >= FUNCTIONS {
-        return;
-    }
-    let size = SIZES[function];
-    if size > ROOM {
-        return;
-    }
     let fd = os::open_read(name);
     if fd < 0 {
         os::fail(name);
     }
     let mut header = [0u8; HEADER];
     io::read_full(fd, &mut header);
-    report(name, count(fd, function, size));
+    count(name, fd, function, size_of(function));
     libc::close(fd);
 }
 

@@ -1,10 +1,10 @@
 // The calls of demand 3 that bring a block back, made one after the other: what their contracts bound is what was written
 // (document 01, "Demand 3 in numbers"). The theorem over the definitions is `demand-3` of the crate `bounds`.
 ghost use mathlib.Core.Path.{_≡_};
-ghost use Rattle.fdct.specs.Fdct.{coefficients};
+ghost use Rattle.forward.specs.Canonical.{coefficients};
 ghost use Rattle.bounds.specs.Demand3.{products, decoded, Near};
-ghost use Rattle.code_and_compare.specs.Calls.{written};
-ghost use Rattle.round_trip.specs.Calls.{roundTripStatus};
+ghost use Rattle.refusals.specs.Refusals.{written};
+ghost use Rattle.bounds.specs.Calls.{roundTripStatus};
 use dequantize::dequantize;
 use fdct::fdct_quantize;
 use idct::islow_block;
@@ -20,9 +20,9 @@ pub fn round_trip(
     out_samples: &mut [u8],
 ) -> u32
     ensures { λ r. ⌜ r ≡ roundTripStatus (now (block .entry)) (now (quant .entry)) (now («out_coefficients» .entry)) (now («out_products» .entry)) (now («out_samples» .entry)) ⌝ }
-    ensures { λ _. ⌜ now («out_coefficients» .exit) ≡ written (roundTripStatus (now (block .entry)) (now (quant .entry)) (now («out_coefficients» .entry)) (now («out_products» .entry)) (now («out_samples» .entry))) (coefficients (now (block .entry)) (now (quant .entry))) (now («out_coefficients» .entry)) ⌝ }
-    ensures { λ _. ⌜ now («out_products» .exit) ≡ written (roundTripStatus (now (block .entry)) (now (quant .entry)) (now («out_coefficients» .entry)) (now («out_products» .entry)) (now («out_samples» .entry))) (products (now (block .entry)) (now (quant .entry))) (now («out_products» .entry)) ⌝ }
-    ensures { λ _. ⌜ now («out_samples» .exit) ≡ written (roundTripStatus (now (block .entry)) (now (quant .entry)) (now («out_coefficients» .entry)) (now («out_products» .entry)) (now («out_samples» .entry))) (decoded (now (block .entry)) (now (quant .entry))) (now («out_samples» .entry)) ⌝ }
+    ensures { λ r. ⌜ now («out_coefficients» .exit) ≡ written r (coefficients (now (block .entry)) (now (quant .entry))) (now («out_coefficients» .entry)) ⌝ }
+    ensures { λ r. ⌜ now («out_products» .exit) ≡ written r (products (now (block .entry)) (now (quant .entry))) (now («out_products» .entry)) ⌝ }
+    ensures { λ r. ⌜ now («out_samples» .exit) ≡ written r (decoded (now (block .entry)) (now (quant .entry))) (now («out_samples» .entry)) ⌝ }
     ensures { λ r. ⌜ (r ≡ 0 → Near (now (quant .entry)) (now (block .entry)) (now («out_samples» .exit))) ⌝ }
 {
     if block.len() != 64 {
@@ -56,9 +56,9 @@ pub fn round_trip_i32(
     out_samples: &mut [u8],
 ) -> u32
     ensures { λ r. ⌜ r ≡ roundTripStatus (now (block .entry)) (now (quant .entry)) (now («out_coefficients» .entry)) (now («out_products» .entry)) (now («out_samples» .entry)) ⌝ }
-    ensures { λ _. ⌜ now («out_coefficients» .exit) ≡ written (roundTripStatus (now (block .entry)) (now (quant .entry)) (now («out_coefficients» .entry)) (now («out_products» .entry)) (now («out_samples» .entry))) (coefficients (now (block .entry)) (now (quant .entry))) (now («out_coefficients» .entry)) ⌝ }
-    ensures { λ _. ⌜ now («out_products» .exit) ≡ written (roundTripStatus (now (block .entry)) (now (quant .entry)) (now («out_coefficients» .entry)) (now («out_products» .entry)) (now («out_samples» .entry))) (products (now (block .entry)) (now (quant .entry))) (now («out_products» .entry)) ⌝ }
-    ensures { λ _. ⌜ now («out_samples» .exit) ≡ written (roundTripStatus (now (block .entry)) (now (quant .entry)) (now («out_coefficients» .entry)) (now («out_products» .entry)) (now («out_samples» .entry))) (decoded (now (block .entry)) (now (quant .entry))) (now («out_samples» .entry)) ⌝ }
+    ensures { λ r. ⌜ now («out_coefficients» .exit) ≡ written r (coefficients (now (block .entry)) (now (quant .entry))) (now («out_coefficients» .entry)) ⌝ }
+    ensures { λ r. ⌜ now («out_products» .exit) ≡ written r (products (now (block .entry)) (now (quant .entry))) (now («out_products» .entry)) ⌝ }
+    ensures { λ r. ⌜ now («out_samples» .exit) ≡ written r (decoded (now (block .entry)) (now (quant .entry))) (now («out_samples» .entry)) ⌝ }
     ensures { λ r. ⌜ (r ≡ 0 → Near (now (quant .entry)) (now (block .entry)) (now («out_samples» .exit))) ⌝ }
 {
     if block.len() != 64 {

@@ -6,14 +6,9 @@ ghost use lib.IntN.{pos, negsuc, _*ℤ_};
 ghost use lib.Signed.{leZ};
 ghost use Rattle.integers.specs.Equal.{eqZ};
 ghost use Rattle.quantize.specs.Quantize.{divisorOf};
-ghost use Rattle.stored_blocks.specs.Stored.{screened, screenAnswer, sameBlocks, sameAnswer};
+ghost use Rattle.stored_coefficients.specs.Stored.{screened, screenAnswer, sameBlocks, sameAnswer};
 use dequantize::product;
-
-// What `screen` and `same` answer: status 0 and the word, or a refusal's number and no.
-pub struct Answer {
-    pub status: u32,
-    pub yes: bool,
-}
+use stored_coefficients::Answer;
 
 fn in_range(coefficient: i16, quantizer: u8) -> bool
     ensures { λ r. ⌜ r ≡ (leZ (negsuc 1023) (coefficient *ℤ pos (divisorOf quantizer)) && leZ (coefficient *ℤ pos (divisorOf quantizer)) (pos 1023)) ⌝ }

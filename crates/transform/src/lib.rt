@@ -3,20 +3,15 @@
 // After the refusals a block of equal samples goes its own way (crate constant_block); of any other, the guarded coefficients (crate guarded)
 // are laid out as one record (crate quantized_block).
 ghost use mathlib.Core.Path.{_≡_};
-ghost use Rattle.transform.specs.Guarded.{refusal, guardedAnswer};
-use aan::QuantizationDivisors;
+ghost use Rattle.guarded_quantizer.specs.Answer.{refusal, guardedAnswer};
 use aan::has_zero;
 use constant_block::all_equal;
 use constant_block::constant_record;
 use guarded::guarded_coefficients;
-pub use quantized_block::QuantizedBlock;
+use guarded_floats::QuantizationDivisors;
+use guarded_quantizer::Quantized;
 use quantized_block::from_natural_order;
-
-// What `fdct_quantize` answers: status 0 and the record, or a refusal's number and zeros.
-pub struct Quantized {
-    pub status: u32,
-    pub block: QuantizedBlock,
-}
+use quantized_record::QuantizedBlock;
 
 fn refused(status: u32) -> Quantized
     ensures { λ r. ⌜ r ≡ refusal status ⌝ }

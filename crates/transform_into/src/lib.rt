@@ -7,10 +7,10 @@ ghost use mathlib.Core.List.{[], _∷_};
 ghost use lib.ListN.{length, getD};
 ghost use lib.IntN.{pos};
 ghost use Rattle.lists.specs.Tab.{tab};
-ghost use Rattle.transform.specs.Guarded.{guardedAnswer};
-ghost use Rattle.divisors_into.specs.Into.{written};
-ghost use Rattle.transform_into.specs.Into.{recordStatus, handed, guardedStatus};
-use aan::QuantizationDivisors;
+ghost use Rattle.guarded_quantizer.specs.Answer.{guardedAnswer};
+ghost use Rattle.refusals.specs.Refusals.{written};
+ghost use Rattle.guarded_quantizer.specs.Into.{recordStatus, handed, guardedStatus};
+use guarded_floats::QuantizationDivisors;
 use transform::fdct_quantize;
 
 // The number of a record's places: `status` where that is not 0.

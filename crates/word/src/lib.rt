@@ -21,7 +21,7 @@ pub fn wrapping_sub_i32(a: i32, b: i32) -> i32
     from_bits_u32(std::num::wrapping_sub_u32(to_bits_i32(a), to_bits_i32(b)))
 }
 
-pub fn wrapping_mul_u32(x: u32, y: u32) -> u32
+fn wrapping_mul_u32(x: u32, y: u32) -> u32
     ensures { λ r. ⌜ r ≡ (x * y) % 2 ^ 32 ⌝ }
 {
     let product = (x as u64) * (y as u64);

@@ -2,7 +2,7 @@
 use mathlib.Core.Path.{refl}
 use lib.Ieee.{ofBits, round}
 use Rattle.fdct_8.specs.Literals.{decimal}
-use Rattle.aan.specs.Divisors.{aanScale}
+use Rattle.guarded_floats.specs.Divisors.{aanScale}
 use Rattle.aan.proofs.aan_scale.Statement.{statement}
 use Rattle.aan.proofs.aan_scale.Tie as tie
 

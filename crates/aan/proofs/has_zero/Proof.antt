@@ -4,8 +4,8 @@ use mathlib.Core.Path.{_≡_, refl, _∙_, ap}
 use native.Mathlib.Omega.{arith}
 use lib.ListN.{take}
 use lib.Seq.{take-all}
-use Rattle.aan.specs.Divisors.{hasZero}
-use Rattle.aan.proofs.Zero.{zero-more}
+use Rattle.guarded_floats.specs.Divisors.{hasZero}
+use Rattle.guarded_floats.proofs.Zero.{zero-more}
 use Rattle.aan.proofs.has_zero.Statement.{statement}
 use Rattle.aan.proofs.has_zero.Tie as tie
 

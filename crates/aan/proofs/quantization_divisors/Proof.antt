@@ -1,11 +1,9 @@
 -- `aan::quantization_divisors` meets its contract. Assumes nothing.
 use mathlib.Core.Path.{sym, ap, _∙_}
-use mathlib.Core.List.{List}
 use borrow.Author.Needs.{needs}
-use lib.Ieee.{Float}
-use Rattle.aan.specs.declared.MadeDivisors.{MadeDivisors}
-use Rattle.aan.specs.Divisors.{divisorsAnswer}
-use Rattle.aan.proofs.Answer.{bad-table, zero-quantizer, table-passed}
+use Rattle.guarded_floats.specs.Divisors.{divisorsAnswer}
+use Rattle.guarded_floats.proofs.Divisors.{made}
+use Rattle.guarded_floats.proofs.Table.{bad-table, zero-quantizer, table-passed}
 use Rattle.aan.proofs.quantization_divisors.Statement.{statement}
 use Rattle.aan.proofs.quantization_divisors.Tie as tie
 
@@ -19,14 +17,11 @@ returns-2 c =
     let test = c .before .before in
     c .refused2 .ensures ∙ zero-quantizer _ _ _ (test .before .if1 .left) (sym (test .has-zero .ensures) ∙ c .before .if2 .taken)
 
-abbrev made : List Float → MadeDivisors
-made l = record { status = 0; divisors = record { reciprocals = l } }
-
 returns-3 : tie.Need-returns-3
 unfolding divisorsAnswer
 returns-3 c =
     let test = c .before .before in
-    ap made (c .reciprocals-of .ensures) ∙ table-passed _ _ _ (test .before .if1 .left) (sym (test .has-zero .ensures) ∙ c .before .if2 .left)
+    ap (made 0) (c .reciprocals-of .ensures) ∙ table-passed _ _ _ (test .before .if1 .left) (sym (test .has-zero .ensures) ∙ c .before .if2 .left)
 
 pub quantization-divisors-spec : {M : Type 1} → statement M
 quantization-divisors-spec =

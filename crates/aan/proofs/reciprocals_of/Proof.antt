@@ -1,15 +1,12 @@
 -- `aan::reciprocals_of` meets its contract. Assumes nothing.
-use Prim.Native.Nat.{ℕ, _≤_, _-_, _/_, _%_}
-use mathlib.Core.Path.{_≡_, refl}
-use mathlib.Core.List.{List}
+use Prim.Native.Nat.{_≤_, _-_, _/_, _%_}
+use mathlib.Core.Path.{refl}
 use native.Mathlib.Omega.{arith}
 use borrow.Author.Needs.{needs}
 use lib.ListN.{getD}
-use lib.IntN.{pos}
-use lib.Ieee.{Float, nan, binary64, mul, div, ofInt, ofBits, round}
 use Rattle.lists.proofs.Tab.{Filled, none, more, all}
-use Rattle.fdct_8.specs.Literals.{decimal}
-use Rattle.aan.specs.Divisors.{aanScale, reciprocal, reciprocals}
+use Rattle.guarded_floats.specs.Divisors.{reciprocal, reciprocals}
+use Rattle.guarded_floats.proofs.Divisors.{made-one}
 use Rattle.aan.proofs.reciprocals_of.Statement.{statement}
 use Rattle.aan.proofs.reciprocals_of.Tie as tie
 
@@ -18,11 +15,6 @@ Inv-loop quant scale made₀ n₀ made n = (n ≤ 64) × Filled (λ k. reciproca
 
 abbrev μ-loop : tie.MeasureT-loop
 μ-loop quant scale made₀ n₀ made n = 64 - n
-
--- the operations, and the literals' bits, computed
-made-one : (q u v : ℕ) {scale : List Float} → scale ≡ aanScale → div binary64 (ofBits binary64 0x3ff0_0000_0000_0000) (mul binary64 (mul binary64 (mul binary64 (ofBits binary64 0x4020_0000_0000_0000) (getD scale u nan)) (getD scale v nan)) (ofInt binary64 (pos q))) ≡ reciprocal q u v
-unfolding ofBits round decimal reciprocal
-made-one q u v e = λ i. div binary64 (decimal 1 0) (mul binary64 (mul binary64 (mul binary64 (decimal 8 0) (getD (e i) u nan)) (getD (e i) v nan)) (ofInt binary64 (pos q)))
 
 loop-again : tie.Need-loop-again Inv-loop μ-loop
 loop-again c =

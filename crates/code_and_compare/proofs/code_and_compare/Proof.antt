@@ -4,7 +4,8 @@ use mathlib.Core.Path.{_≡_, ap, _∙_}
 use borrow.Author.Needs.{needs}
 use native.Mathlib.Omega.{arith}
 use lib.ListN.{length}
-use Rattle.code_and_compare.proofs.Answers.{coded, length-coefficients, compare-refused, bad-a, bad-b, bad-quant, bad-outA, bad-outB, compare-done}
+use Rattle.refusals.proofs.Refusals.{accepted-writes}
+use Rattle.bounds.proofs.Compared.{length-coefficients, compare-refused, bad-a, bad-b, bad-quant, bad-outA, bad-outB, compare-done}
 use Rattle.code_and_compare.proofs.code_and_compare.Statement.{statement}
 use Rattle.code_and_compare.proofs.code_and_compare.Tie as tie
 
@@ -23,8 +24,8 @@ returns-6 c =
     let oa = t4 .if4 .left in
     let ob = t5 .if5 .left in
     compare-done _ _ _ _ _ la lb lq oa ob (λ i. omega (arith, t1 .before .shared-slice-known3 .given i))
-    (first .fdct-quantize .ensures .1 ∙ coded _ _ _ la lq oa)
-    (second .fdct-quantize2 .ensures .1 ∙ coded _ _ _ lb lq ob)
+    (accepted-writes _ _ _ _ la lq oa (first .fdct-quantize .ensures))
+    (accepted-writes _ _ _ _ lb lq ob (second .fdct-quantize2 .ensures))
     (c .same .ensures)
 
 pub code-and-compare-spec : {M : Type 1} → statement M

@@ -6,8 +6,8 @@ use native.Mathlib.Omega.{arith}
 use borrow.Author.Needs.{needs}
 use borrow.Author.Tests.{not-true, not-false}
 use lib.ListN.{length}
-use Rattle.coefficient_text.specs.Text.{accepted, refusal}
-use Rattle.coefficient_text.proofs.Input.{accepted-only}
+use Rattle.coefficient_lines.specs.Text.{accepted, refusal}
+use Rattle.coefficient_lines.proofs.Input.{accepted-only}
 use Rattle.coefficient_text.proofs.Answer.{bad-output, refused, done, written}
 use Rattle.coefficient_text.proofs.coefficient_text.Statement.{statement}
 use Rattle.coefficient_text.proofs.coefficient_text.Tie as tie
@@ -44,7 +44,7 @@ returns-3 c =
     let p = c .before .before in
     let f = p .before .before .before .before in
     let t = f .before .before .before .before in
-    let cs = f .fdct-quantize .ensures .1 ∙ written (t .before .before .before .before .before .args .input .now) (long t) in
+    let cs = written (t .before .before .before .before .before .args .input .now) (long t) (f .fdct-quantize .ensures) in
     done _ _ (t .before .before .if1 .left) (yes t) cs (p .put-numbers .ensures)
 
 pub coefficient-text-spec : {M : Type 1} → statement M

@@ -6,7 +6,7 @@ use lib.Dec.{eqb}
 use lib.ListN.{getD}
 use Rattle.lists.specs.Below.{below}
 use Rattle.lists.proofs.Below.{below-next, below-all}
-use Rattle.constant_block.specs.Constant.{constant}
+use Rattle.guarded_quantizer.specs.Constant.{constant}
 use Rattle.constant_block.proofs.all_equal.Statement.{statement}
 use Rattle.constant_block.proofs.all_equal.Tie as tie
 

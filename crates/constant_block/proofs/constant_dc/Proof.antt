@@ -7,7 +7,7 @@ use mir.Syntax.{w16}
 use mir.ValLaws.{toZ-ofZ}
 use Rattle.integers.proofs.Bound.{small-fits}
 use Rattle.quantize.specs.Quantize.{coefficient}
-use Rattle.constant_block.proofs.DcSum.{difference-fits, scaled-fits, product, product-size}
+use Rattle.constant_block.proofs.Words.{difference-fits, scaled-fits, product, product-size}
 use Rattle.constant_block.proofs.constant_dc.Statement.{statement}
 use Rattle.constant_block.proofs.constant_dc.Tie as tie
 

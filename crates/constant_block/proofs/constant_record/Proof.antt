@@ -8,9 +8,9 @@ use mir.ValLaws.{toZ-ofZ}
 use Rattle.integers.proofs.Bound.{small-fits}
 use Rattle.lists.specs.Tab.{tab}
 use Rattle.quantize.specs.Quantize.{coefficient}
-use Rattle.fdct.specs.Fdct.{canonical}
-use Rattle.constant_block.proofs.DcSum.{constant-sum}
-use Rattle.constant_block.proofs.Record.{only-dc}
+use Rattle.forward.specs.Canonical.{canonical}
+use Rattle.guarded_quantizer.proofs.DcSum.{constant-sum}
+use Rattle.guarded_quantizer.proofs.OnlyDc.{only-dc}
 use Rattle.constant_block.proofs.constant_record.Statement.{statement}
 use Rattle.constant_block.proofs.constant_record.Tie as tie
 

@@ -10,9 +10,9 @@ use mir.Facts.{sfits-widen, sfits-toZ, fits-ofZ}
 use mir.Syntax.{w16, w64}
 use mir.Val.{toZ, ofZ}
 use mir.ValLaws.{toZ-ofZ}
-use Rattle.decimal_lines.specs.Lines.{digits}
-use Rattle.decimal_lines.proofs.Stores.{wrote-then, wrote-one, wrote-as, wrote-within}
-use Rattle.decimal_lines.proofs.Decimal.{size-small, decimal-negative, decimal-other}
+use Rattle.coefficient_lines.specs.Lines.{digits}
+use Rattle.coefficient_lines.proofs.Stores.{wrote-then, wrote-one, wrote-as, wrote-within}
+use Rattle.coefficient_lines.proofs.Decimal.{size-small, decimal-negative, decimal-other}
 use Rattle.decimal_lines.proofs.put_decimal.Statement.{statement}
 use Rattle.decimal_lines.proofs.put_decimal.Tie as tie
 
@@ -30,7 +30,7 @@ small : (c : tie.After-unsigned-abs) → c .unsigned-abs .result < 100000
 small c = omega (arith, size c, size-small (c .before .before .args .z) (c .before .before .fits .z))
 
 put-digits-requires : tie.Need-put-digits-requires
-put-digits-requires c κs = (simp length-set (omega arith), small (c .before .before))
+put-digits-requires c κs = (omega arith, (small (c .before .before), simp length-set (omega arith)))
 
 same-length : tie.Need-same-length
 same-length c = c .before .before .put-digits .ensures .long ∙ simp length-set
@@ -42,7 +42,7 @@ returns c =
     wrote-as bytes (wrote-then (wrote-one _ _ 45) (c .before .before .put-digits .ensures))
 
 put-digits-requires-2 : tie.Need-put-digits-requires-2
-put-digits-requires-2 c κs = (omega arith, small (c .before .before))
+put-digits-requires-2 c κs = (omega arith, (small (c .before .before), omega arith))
 
 returns-2 : tie.Need-returns-2
 returns-2 c =

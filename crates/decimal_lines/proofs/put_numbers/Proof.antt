@@ -5,10 +5,10 @@ use native.Mathlib.Omega.{arith}
 use borrow.Author.Needs.{needs}
 use mir.Syntax.{w16}
 use mir.ValLaws.{toZ-ofZ}
-use Rattle.decimal_lines.specs.Stores.{Wrote}
-use Rattle.decimal_lines.specs.Lines.{numbers}
-use Rattle.decimal_lines.proofs.Stores.{wrote-none, wrote-then, wrote-one, wrote-as, wrote-within}
-use Rattle.decimal_lines.proofs.Decimal.{numbers-more}
+use Rattle.coefficient_lines.specs.Stores.{Wrote}
+use Rattle.coefficient_lines.specs.Lines.{numbers}
+use Rattle.coefficient_lines.proofs.Stores.{wrote-none, wrote-then, wrote-one, wrote-as, wrote-within}
+use Rattle.coefficient_lines.proofs.Decimal.{numbers-more}
 use Rattle.decimal_lines.proofs.put_numbers.Statement.{statement}
 use Rattle.decimal_lines.proofs.put_numbers.Tie as tie
 

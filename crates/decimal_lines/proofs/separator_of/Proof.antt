@@ -1,6 +1,6 @@
 -- `decimal_lines::separator_of` meets its contract. Assumes nothing.
 use borrow.Author.Tests.{eq-eqb, ne-eqb}
-use Rattle.decimal_lines.specs.Lines.{separator}
+use Rattle.coefficient_lines.specs.Lines.{separator}
 use Rattle.decimal_lines.proofs.separator_of.Statement.{statement}
 use Rattle.decimal_lines.proofs.separator_of.Tie as tie
 

@@ -10,7 +10,7 @@ use mir.ValLaws.{toZ-ofZ}
 use Rattle.integers.proofs.Bound.{small-fits}
 use Rattle.lists.proofs.Tab.{Filled, none, more, all}
 use Rattle.quantize.specs.Quantize.{divisorOf}
-use Rattle.dequantize.specs.Dequantize.{product, dequantized}
+use Rattle.stored_coefficients.specs.Dequantize.{product, dequantized}
 use Rattle.dequantize.proofs.write_products.Statement.{statement}
 use Rattle.dequantize.proofs.write_products.Tie as tie
 

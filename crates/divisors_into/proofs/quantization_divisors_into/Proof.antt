@@ -1,6 +1,6 @@
 -- `divisors_into::quantization_divisors_into` meets its contract. Assumes nothing.
 use borrow.Author.Needs.{needs}
-use Rattle.divisors_into.proofs.Made.{refused, bad-output, stored}
+use Rattle.guarded_floats.proofs.Made.{refused, bad-output, stored}
 use Rattle.divisors_into.proofs.quantization_divisors_into.Statement.{statement}
 use Rattle.divisors_into.proofs.quantization_divisors_into.Tie as tie
 

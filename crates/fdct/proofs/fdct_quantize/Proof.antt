@@ -8,8 +8,8 @@ use Prim.Native.Nat.{ℕ, _≤_}
 use lib.IntN.{ℤ}
 use Rattle.lists.specs.Tab.{tab}
 use Rattle.forward.specs.Forward.{quantizedSum}
-use Rattle.fdct.proofs.Block.{block-coefficients}
-use Rattle.fdct.proofs.Entry.{bad-block, bad-quant, bad-output, done}
+use Rattle.forward.proofs.Canonical.{block-coefficients}
+use Rattle.refusals.proofs.Refusals.{bad-block, bad-quant, bad-output, done}
 use Rattle.fdct.proofs.fdct_quantize.Statement.{statement}
 use Rattle.fdct.proofs.fdct_quantize.Tie as tie
 
@@ -25,15 +25,15 @@ returns-4 c =
     let shift = wider .before in
     let t = shift .before in
     let written = w .write-coefficients .ensures ∙ (λ i. tab 64 (quantizedSum (shift .level-shift .ensures .0 i) (wider .widen .ensures i))) ∙ block-coefficients _ _ in
-    done _ _ _ (t .before .before .if1 .left) (t .before .if2 .left) (t .if3 .left) written
+    done _ _ _ _ (t .before .before .if1 .left) (t .before .if2 .left) (t .if3 .left) written
 
 pub fdct-quantize-spec : {M : Type 1} → statement M
 fdct-quantize-spec =
     tie.close
     (tie.spec
-    (λ c. bad-block _ _ _ (c .if1 .taken))
-    (λ c. bad-quant _ _ _ (c .before .if1 .left) (c .if2 .taken))
-    (λ c. bad-output _ _ _ (c .before .before .if1 .left) (c .before .if2 .left) (c .if3 .taken))
+    (λ c. bad-block _ _ _ _ (c .if1 .taken))
+    (λ c. bad-quant _ _ _ _ (c .before .if1 .left) (c .if2 .taken))
+    (λ c. bad-output _ _ _ _ (c .before .before .if1 .left) (c .before .if2 .left) (c .if3 .taken))
     (λ c κs. search needs)
     (λ c κs. search needs)
     write-coefficients-requires

@@ -9,7 +9,7 @@ use Rattle.integers.proofs.Bound.{small-fits}
 use Rattle.forward.specs.Forward.{centredSum}
 use Rattle.forward.proofs.Folding.{sum-centred}
 use Rattle.quantize.specs.Quantize.{coefficient}
-use Rattle.fdct.proofs.Entry.{one-bad-block, one-bad-index, one-done}
+use Rattle.forward.proofs.Canonical.{one-bad-block, one-bad-index, one-done}
 use Rattle.fdct.proofs.fdct_quantize_coefficient.Statement.{statement}
 use Rattle.fdct.proofs.fdct_quantize_coefficient.Tie as tie
 

@@ -5,7 +5,7 @@ use native.Mathlib.Omega.{arith}
 use borrow.Author.Needs.{needs}
 use Rattle.lists.proofs.Tab.{Filled, none, more, all}
 use Rattle.fdct_8.specs.Transform.{fdct8}
-use Rattle.fdct_values.specs.Values.{row}
+use Rattle.guarded_floats.specs.Values.{row}
 use Rattle.fdct_values.proofs.fdct_rows.Statement.{statement}
 use Rattle.fdct_values.proofs.fdct_rows.Tie as tie
 

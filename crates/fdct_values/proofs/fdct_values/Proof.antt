@@ -5,9 +5,9 @@ use native.Mathlib.Omega.{arith}
 use borrow.Author.Needs.{needs}
 use lib.Ieee.{nan}
 use Rattle.fdct_8.specs.Transform.{fdct8}
-use Rattle.fdct_values.specs.Values.{fdctValue, fdctValues}
+use Rattle.guarded_floats.specs.Values.{fdctValue, fdctValues}
 use Rattle.fdct_values.proofs.ByColumns.{ByColumns, none, more, same, all}
-use Rattle.fdct_values.proofs.Values.{column-of-rows, value-at}
+use Rattle.guarded_floats.proofs.Values.{column-of-rows, value-at}
 use Rattle.fdct_values.proofs.fdct_values.Statement.{statement}
 use Rattle.fdct_values.proofs.fdct_values.Tie as tie
 

@@ -6,7 +6,7 @@ use borrow.Author.Needs.{needs}
 use lib.Ieee.{ofBits, round}
 use Rattle.lists.proofs.Tab.{Filled, none, more, all}
 use Rattle.fdct_8.specs.Literals.{decimal}
-use Rattle.fdct_values.specs.Values.{centred, row}
+use Rattle.guarded_floats.specs.Values.{centred, row}
 use Rattle.fdct_values.proofs.load_row.Statement.{statement}
 use Rattle.fdct_values.proofs.load_row.Tie as tie
 

@@ -5,8 +5,8 @@ use native.Mathlib.Omega.{arith}
 use mir.Syntax.{w16}
 use mir.Val.{SFits}
 use mir.ValLaws.{toZ-ofZ}
-use Rattle.fdct.specs.declared.Coefficient.{Coefficient}
-use Rattle.fdct.proofs.Entry.{one-done}
+use Rattle.forward.specs.declared.Coefficient.{Coefficient}
+use Rattle.forward.proofs.Canonical.{one-done}
 use Rattle.guarded.proofs.canonical_coefficient.Statement.{statement}
 use Rattle.guarded.proofs.canonical_coefficient.Tie as tie
 

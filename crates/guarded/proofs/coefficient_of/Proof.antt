@@ -11,8 +11,8 @@ use mir.Val.{SFits, toZ, ofZ}
 use Rattle.binary64.specs.Binary64.{roundedToI16}
 use Rattle.binary64.proofs.Rounding.{rounded-fits}
 use Rattle.binary64.proofs.Fields.{digits}
-use Rattle.binary64_sum.proofs.FixedPoint.{rounding, rounding-number, whole-part-most, settled-point}
-use Rattle.guarded.proofs.Values.{stored, chosen}
+use Rattle.binary64.proofs.FixedPoint.{rounding, rounding-number, whole-part-most, settled-point}
+use Rattle.guarded.proofs.Stored.{stored, chosen}
 use Rattle.guarded.proofs.Whole.{cast-fits, less-fits, whole-value}
 use Rattle.guarded.proofs.coefficient_of.Statement.{statement}
 use Rattle.guarded.proofs.coefficient_of.Tie as tie

@@ -2,7 +2,7 @@
 use mathlib.Core.Path.{sym, _∙_}
 use mathlib.Core.Bool.{true, false}
 use borrow.Author.Needs.{needs}
-use Rattle.guarded.proofs.Values.{chosen}
+use Rattle.guarded.proofs.Stored.{chosen}
 use Rattle.guarded.proofs.exact_coefficient.Statement.{statement}
 use Rattle.guarded.proofs.exact_coefficient.Tie as tie
 

@@ -6,8 +6,8 @@ use borrow.Author.Needs.{needs}
 use mir.Syntax.{w16}
 use mir.ValLaws.{toZ-ofZ}
 use Rattle.lists.proofs.Tab.{Filled, none, more, all}
-use Rattle.guarded.specs.Guarded.{guarded}
-use Rattle.guarded.proofs.Values.{guarded-at}
+use Rattle.guarded_quantizer.specs.Guarded.{guarded}
+use Rattle.guarded_quantizer.proofs.Guarded.{guarded-at}
 use Rattle.guarded.proofs.guarded_coefficients.Statement.{statement}
 use Rattle.guarded.proofs.guarded_coefficients.Tie as tie
 

@@ -12,11 +12,11 @@ use Rattle.lists.specs.Tab.{tab}
 use Rattle.lists.proofs.Tab.{Filled, more, all}
 use Rattle.zigzag.specs.Zigzag.{zigzagOrder}
 use Rattle.forward.specs.Sum.{total}
-use Rattle.quantized_block.specs.Bitmap.{withBit, nonzero, bitmapOf}
-use Rattle.quantized_block.specs.Record.{acPlaces}
-use Rattle.quantized_block.proofs.Bitmap.{upTo, bitAt, update-next}
-use Rattle.quantized_block.proofs.Order.{ac-index}
-use Rattle.quantized_block.proofs.Record.{acAt, ac-at, ac-place, whole}
+use Rattle.quantized_record.specs.Bitmap.{withBit, nonzero, bitmapOf}
+use Rattle.quantized_record.specs.Record.{acPlaces}
+use Rattle.quantized_record.proofs.Bitmap.{upTo, bitAt, update-next}
+use Rattle.quantized_record.proofs.Order.{ac-index}
+use Rattle.quantized_record.proofs.Record.{acAt, ac-at, ac-place, whole}
 use Rattle.quantized_block.proofs.from_natural_order.Statement.{statement}
 use Rattle.quantized_block.proofs.from_natural_order.Tie as tie
 

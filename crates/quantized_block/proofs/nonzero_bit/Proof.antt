@@ -1,6 +1,6 @@
 -- `quantized_block::nonzero_bit` meets its contract. Assumes nothing.
 use borrow.Author.Tests.{eq-eqb, ne-eqb}
-use Rattle.quantized_block.proofs.Bitmap.{bits-nonzero}
+use Rattle.quantized_record.proofs.Bitmap.{bits-nonzero}
 use Rattle.quantized_block.proofs.nonzero_bit.Statement.{statement}
 use Rattle.quantized_block.proofs.nonzero_bit.Tie as tie
 

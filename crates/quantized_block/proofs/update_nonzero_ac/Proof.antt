@@ -5,8 +5,8 @@ use native.Mathlib.Omega.{arith}
 use borrow.Author.Needs.{needs}
 use mir.Syntax.{w16}
 use mir.ValLaws.{toZ-ofZ}
-use Rattle.quantized_block.specs.Bitmap.{withBit, nonzero}
-use Rattle.quantized_block.proofs.Bitmap.{nonzero-lt, update-bit}
+use Rattle.quantized_record.specs.Bitmap.{withBit, nonzero}
+use Rattle.quantized_record.proofs.Bitmap.{nonzero-lt, update-bit}
 use Rattle.quantized_block.proofs.update_nonzero_ac.Statement.{statement}
 use Rattle.quantized_block.proofs.update_nonzero_ac.Tie as tie
 

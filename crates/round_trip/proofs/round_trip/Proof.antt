@@ -12,8 +12,8 @@ use Rattle.lists.specs.Tab.{tab}
 use Rattle.lists.proofs.Tab.{tab-getD}
 use Rattle.bounds.specs.Demand3.{products}
 use Rattle.bounds.proofs.Near.{narrow}
-use Rattle.code_and_compare.proofs.Answers.{coded}
-use Rattle.round_trip.proofs.Answers.{returned, length-products, trip-refused, trip-block, trip-quant, trip-coefficients, trip-products, trip-samples, trip-done}
+use Rattle.refusals.proofs.Refusals.{accepted-writes}
+use Rattle.bounds.proofs.Returned.{returned, length-products, trip-refused, trip-block, trip-quant, trip-coefficients, trip-products, trip-samples, trip-done}
 use Rattle.round_trip.proofs.round_trip.Statement.{statement}
 use Rattle.round_trip.proofs.round_trip.Tie as tie
 
@@ -26,7 +26,7 @@ wide c =
     let code = c .before .before .before .before in
     let t3 = code .before .before .before .before in
     let lq = t3 .before .if2 .left in
-    returned _ _ _ (code .fdct-quantize .ensures .1 ∙ coded _ _ _ (t3 .before .before .if1 .left) lq (t3 .if3 .left)) (c .dequantize .ensures .1) lq (length-replicate 64 (pos 0))
+    returned _ _ _ (accepted-writes _ _ _ _ (t3 .before .before .if1 .left) lq (t3 .if3 .left) (code .fdct-quantize .ensures)) (c .dequantize .ensures) lq (length-replicate 64 (pos 0))
 
 -- the bytes of the table and of the block
 narrowed : (c : tie.After-dequantize) (n : ℕ) → SFits w16 (getD (c .dequantize .last .1 .1 .0) n (pos 0))
@@ -50,7 +50,7 @@ returns-6 c =
     let ps = products (s .args .block .now) (s .args .quant .now) in
     trip-done _ _ _ _ _ (t1 .if1 .left) (t2 .if2 .left) (t3 .if3 .left) (t4 .if4 .left) (t5 .if5 .left)
     (λ i. omega (arith, t1 .before .before .shared-slice-known2 .given i)) (λ i. omega (arith, t1 .before .before .before .shared-slice-known .given i))
-    (code .fdct-quantize .ensures .1 ∙ coded _ _ _ (t1 .if1 .left) (t2 .if2 .left) (t3 .if3 .left))
+    (accepted-writes _ _ _ _ (t1 .if1 .left) (t2 .if2 .left) (t3 .if3 .left) (code .fdct-quantize .ensures))
     (narrows .narrow-all .ensures ∙ (λ i. tab 64 (λ n. getD (wide multiply i) n (pos 0))) ∙ tab-getD (pos 0) ps 64 (length-products (s .args .block .now) (s .args .quant .now)))
     (inverse .islow-block .ensures .0)
     (inverse .islow-block .ensures .1)

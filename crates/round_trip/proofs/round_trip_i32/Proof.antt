@@ -3,8 +3,8 @@ use Prim.Native.Nat.{_≤_}
 use mathlib.Core.Path.{_∙_}
 use borrow.Author.Needs.{needs}
 use native.Mathlib.Omega.{arith}
-use Rattle.code_and_compare.proofs.Answers.{coded}
-use Rattle.round_trip.proofs.Answers.{returned, trip-refused, trip-block, trip-quant, trip-coefficients, trip-products, trip-samples, trip-done}
+use Rattle.refusals.proofs.Refusals.{accepted-writes}
+use Rattle.bounds.proofs.Returned.{returned, trip-refused, trip-block, trip-quant, trip-coefficients, trip-products, trip-samples, trip-done}
 use Rattle.round_trip.proofs.round_trip_i32.Statement.{statement}
 use Rattle.round_trip.proofs.round_trip_i32.Tie as tie
 
@@ -24,11 +24,11 @@ returns-6 c =
     let lc = t3 .if3 .left in
     let lp = t4 .if4 .left in
     let ls = t5 .if5 .left in
-    let left = code .fdct-quantize .ensures .1 ∙ coded _ _ _ lb lq lc in
+    let left = accepted-writes _ _ _ _ lb lq lc (code .fdct-quantize .ensures) in
     trip-done _ _ _ _ _ lb lq lc lp ls
     (λ i. omega (arith, t1 .before .before .shared-slice-known2 .given i)) (λ i. omega (arith, t1 .before .before .before .shared-slice-known .given i))
     left
-    (returned (s .args .block .now) (s .args .quant .now) _ left (multiply .dequantize .ensures .1) lq lp)
+    (returned (s .args .block .now) (s .args .quant .now) _ left (multiply .dequantize .ensures) lq lp)
     (inverse .islow-block-i32 .ensures .0)
     (inverse .islow-block-i32 .ensures .1)
 

@@ -1,6 +1,6 @@
 -- `stored_blocks::same` meets its contract. Assumes nothing.
 use borrow.Author.Needs.{needs}
-use Rattle.stored_blocks.proofs.Entries.{same-bad-first, same-bad-second, same-done}
+use Rattle.stored_coefficients.proofs.Entries.{same-bad-first, same-bad-second, same-done}
 use Rattle.stored_blocks.proofs.same.Statement.{statement}
 use Rattle.stored_blocks.proofs.same.Tie as tie
 

@@ -1,6 +1,6 @@
 -- `stored_blocks::screen` meets its contract. Assumes nothing.
 use borrow.Author.Needs.{needs}
-use Rattle.stored_blocks.proofs.Entries.{screen-bad-block, screen-bad-quant, screen-done}
+use Rattle.stored_coefficients.proofs.Entries.{screen-bad-block, screen-bad-quant, screen-done}
 use Rattle.stored_blocks.proofs.screen.Statement.{statement}
 use Rattle.stored_blocks.proofs.screen.Tie as tie
 

@@ -2,11 +2,11 @@
 use mathlib.Core.Path.{sym, ap, _∙_}
 use mathlib.Core.Bool.{true, false}
 use borrow.Author.Needs.{needs}
-use Rattle.quantized_block.specs.declared.QuantizedBlock.{QuantizedBlock}
-use Rattle.quantized_block.proofs.Record.{record-tab}
-use Rattle.aan.proofs.Answer.{bad-table, zero-quantizer, table-passed}
-use Rattle.transform.specs.declared.Quantized.{Quantized}
-use Rattle.transform.proofs.Answer.{bad-block, good-block, by-constant}
+use Rattle.quantized_record.specs.declared.QuantizedBlock.{QuantizedBlock}
+use Rattle.quantized_record.proofs.Record.{record-tab}
+use Rattle.guarded_floats.proofs.Table.{bad-table, zero-quantizer, table-passed}
+use Rattle.guarded_quantizer.specs.declared.Quantized.{Quantized}
+use Rattle.guarded_quantizer.proofs.Answer.{bad-block, good-block, by-constant}
 use Rattle.transform.proofs.fdct_quantize.Statement.{statement}
 use Rattle.transform.proofs.fdct_quantize.Tie as tie
 

@@ -7,7 +7,7 @@ use lib.Ieee.{nan, ofBits, round}
 use Rattle.lists.specs.Tab.{tab}
 use Rattle.fdct_8.specs.Literals.{decimal}
 use Rattle.lists.proofs.Tab.{Filled, none, more, all}
-use Rattle.transform_into.proofs.Status.{handed-all, handed-none}
+use Rattle.guarded_quantizer.proofs.Status.{handed-all, handed-none}
 use Rattle.transform_into.proofs.by_value.Statement.{statement}
 use Rattle.transform_into.proofs.by_value.Tie as tie
 

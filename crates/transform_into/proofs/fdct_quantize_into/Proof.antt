@@ -4,8 +4,8 @@ use borrow.Author.Needs.{needs}
 use mir.Syntax.{w16}
 use mir.Val.{SFits}
 use mir.ValLaws.{toZ-ofZ}
-use Rattle.transform_into.proofs.Status.{ready}
-use Rattle.transform_into.proofs.Guarded.{refused, stored}
+use Rattle.guarded_quantizer.proofs.Status.{ready}
+use Rattle.guarded_quantizer.proofs.Into.{refused, stored}
 use Rattle.transform_into.proofs.fdct_quantize_into.Statement.{statement}
 use Rattle.transform_into.proofs.fdct_quantize_into.Tie as tie
 

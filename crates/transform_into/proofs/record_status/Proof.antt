@@ -1,5 +1,5 @@
 -- `transform_into::record_status` meets its contract. Assumes nothing.
-use Rattle.transform_into.proofs.Status.{refused, bad-divisors, bad-dc, bad-ac, bad-bitmap, taken}
+use Rattle.guarded_quantizer.proofs.Status.{refused, bad-divisors, bad-dc, bad-ac, bad-bitmap, taken}
 use Rattle.transform_into.proofs.record_status.Statement.{statement}
 use Rattle.transform_into.proofs.record_status.Tie as tie
 

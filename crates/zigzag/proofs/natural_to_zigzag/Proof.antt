@@ -2,13 +2,15 @@
 use mathlib.Core.Path.{refl}
 use mathlib.Core.List.{flatMap}
 use Rattle.lists.specs.Tab.{tab}
-use Rattle.zigzag.specs.Zigzag.{diagonal, walked, zigzagOrder, placeIn, places}
+use Rattle.lists.specs.Below.{below}
+use Rattle.zigzag.specs.Zigzag.{diagonal, walked, zigzagOrder, placeIn}
+use Rattle.zigzag.proofs.Places.{places-by}
 use Rattle.zigzag.proofs.natural_to_zigzag.Statement.{statement}
 use Rattle.zigzag.proofs.natural_to_zigzag.Tie as tie
 
 returns : tie.Need-returns
-unfolding flatMap tab diagonal walked zigzagOrder placeIn places
-returns c = refl
+unfolding flatMap tab below diagonal walked zigzagOrder placeIn
+returns c = places-by _ refl tt
 
 pub natural-to-zigzag-spec : {M : Type 1} → statement M
 natural-to-zigzag-spec = tie.close (tie.spec returns)

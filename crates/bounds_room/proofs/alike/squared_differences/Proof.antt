@@ -1,6 +1,5 @@
 -- `bounds_room::alike::squared_differences` is safe and ends: the measure is what is left of the places. Assumes nothing.
 use Prim.Native.Nat.{_≤_, _-_}
-use borrow.Author.Needs.{needs}
 use native.Mathlib.Omega.{arith}
 use Rattle.bounds_room.proofs.alike.squared_differences.Statement.{statement}
 use Rattle.bounds_room.proofs.alike.squared_differences.Tie as tie
@@ -20,7 +19,6 @@ squared-differences-spec =
     (λ c. omega arith)
     (λ c. omega arith)
     (λ c. omega arith)
-    (λ c κs. tt)
     (λ c κs. tt)
     (λ c κs. tt)
     (λ c. omega arith)

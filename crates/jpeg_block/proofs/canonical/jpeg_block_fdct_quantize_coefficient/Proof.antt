@@ -3,7 +3,7 @@ use mathlib.Core.Path.{ap, _∙_}
 use borrow.Author.Needs.{needs}
 use mir.Syntax.{w16}
 use mir.ValLaws.{toZ-ofZ}
-use Rattle.fdct.specs.declared.Coefficient.{Coefficient}
+use Rattle.forward.specs.declared.Coefficient.{Coefficient}
 use Rattle.place.proofs.Place.{handed-on}
 use Rattle.jpeg_block.proofs.canonical.jpeg_block_fdct_quantize_coefficient.Statement.{statement}
 use Rattle.jpeg_block.proofs.canonical.jpeg_block_fdct_quantize_coefficient.Tie as tie

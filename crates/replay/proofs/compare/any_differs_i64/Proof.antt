@@ -1,16 +1,16 @@
 -- `replay::compare::any_differs_i64` is safe and ends: the measure is what is left of the answers. Assumes nothing.
-use Prim.Native.Nat.{_≤_, _-_}
-use borrow.Author.Needs.{needs}
+use mathlib.Core.Path.{_≡_}
+use Prim.Native.Nat.{_≤_, _-_, _+_, _*_}
 use native.Mathlib.Omega.{arith}
 use lib.ListN.{length}
 use Rattle.replay.proofs.compare.any_differs_i64.Statement.{statement}
 use Rattle.replay.proofs.compare.any_differs_i64.Tie as tie
 
 abbrev Inv-loop : tie.InvT-loop
-Inv-loop case at answers i₀ at₀ i at' = i ≤ length answers
+Inv-loop case at₀ answers differs₀ i₀ at differs i = (at ≡ at₀ + 8 * i) × (i ≤ length answers)
 
 abbrev μ-loop : tie.MeasureT-loop
-μ-loop case at answers i₀ at₀ i at' = length answers - i
+μ-loop case at₀ answers differs₀ i₀ at differs i = length answers - i
 
 pub any-differs-i64-spec : {M : Type 1} → statement M
 any-differs-i64-spec =
@@ -18,15 +18,13 @@ any-differs-i64-spec =
     (tie.spec
     Inv-loop
     μ-loop
+    (λ c. (omega arith, omega arith))
     (λ c. omega arith)
     (λ c. omega arith)
-    (λ c. tt)
-    (λ c. search needs)
-    (λ c. omega arith)
+    (λ c κs. tt)
     (λ c κs. omega arith)
-    (λ c. tt)
     (λ c. omega arith)
     (λ c. omega arith)
     (λ c. omega arith)
-    (λ c. omega arith)
+    (λ c. (omega arith, omega arith))
     (λ c. tt))

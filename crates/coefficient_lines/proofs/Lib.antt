@@ -1,0 +1,4 @@
+pub mod Stores
+pub mod Decimal
+pub mod Readable
+pub mod Input

@@ -1,0 +1,4 @@
+pub mod Guarded
+pub mod Constant
+pub mod Answer
+pub mod Into

@@ -1,2 +1,0 @@
-mod Status
-mod Guarded
