@@ -17,13 +17,10 @@ fn squared_differences(a: &[u8; 64], b: &[u8; 64]) -> u64 {
     total
 }
 
-// No call here is refused: each has 64 places.
 fn same_coefficients(a: &[u8; 64], b: &[u8; 64], quant: &[u8; 64]) -> bool {
     let mut out_a = [0i16; 64];
     let mut out_b = [0i16; 64];
-    fdct::fdct_quantize(a, quant, &mut out_a);
-    fdct::fdct_quantize(b, quant, &mut out_b);
-    let got = stored_blocks::same(&out_a, &out_b);
+    let got = code_and_compare::code_and_compare(a, b, quant, &mut out_a, &mut out_b);
     got.yes
 }
 

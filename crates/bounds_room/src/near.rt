@@ -7,6 +7,7 @@ use crate::found::X;
 use crate::found::Y;
 use crate::print::item;
 use basis::basis_table;
+use round_trip::round_trip_i32;
 
 const PLACE: usize = 8 * Y + X;
 
@@ -35,9 +36,7 @@ fn sample_back(block: &[u8; 64], quant: &[u8; 64]) -> u8 {
     let mut coefficients = [0i16; 64];
     let mut products = [0i32; 64];
     let mut samples = [0u8; 64];
-    fdct::fdct_quantize(block, quant, &mut coefficients);
-    dequantize::dequantize(&coefficients, quant, &mut products);
-    idct_i32::islow_block_i32(&products, &mut samples);
+    round_trip_i32(block, quant, &mut coefficients, &mut products, &mut samples);
     samples[PLACE]
 }
 
