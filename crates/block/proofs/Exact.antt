@@ -2,16 +2,16 @@
 -- Assumes nothing.
 use mathlib.Core.Path.{_≡_, refl, sym, ap, _∙_}
 use mathlib.Core.Bool.{Bool, true, _&&_}
-use mathlib.Core.List.{List, [], _∷_, map}
+use mathlib.Core.List.{List, [], _∷_}
 use Prim.Native.Nat.{ℕ, zero, suc, _+_, _-_, _*_, _/_, _%_, _^_, _<_, _≤_, zero-le}
-use native.Mathlib.Nat.{le-trans, lt-of-le-of-lt, div-le-self}
+use native.Mathlib.Nat.{lt-of-le-of-lt, div-le-self}
 use native.Mathlib.Omega.{arith}
 use lib.Dec.{T, ltb, ltb→lt}
 use lib.ListN.{length, getD}
 use lib.IntN.{ℤ, pos, negsuc, natAbs, _+ℤ_}
 use mir.Facts.{and-yes}
 use mir.Syntax.{Width, w32, w64}
-use mir.Val.{SFits, hbits}
+use mir.Val.{hbits}
 use Rattle.integers.specs.Wrap.{wrap}
 use Rattle.integers.specs.Floor.{floorDiv}
 use Rattle.integers.specs.Linear.{dot, transform, weight}

@@ -1,6 +1,6 @@
 -- "Two inputs that agree on the entries read give the same samples": for each size, at 8 and at 12 bits.
 -- Assumes nothing.
-use mathlib.Core.Path.{_≡_, refl, sym, ap, _∙_, subst}
+use mathlib.Core.Path.{_≡_, refl, sym, ap, _∙_}
 use mathlib.Core.Bool.{Bool, true, false, cond, not, _&&_}
 use mathlib.Core.List.{List, [], _∷_, map}
 use Prim.Native.Nat.{ℕ, _+_, _*_, _/_, _%_, _<_, _≤_}
@@ -20,7 +20,7 @@ use Rattle.lists.proofs.Tab.{length-tab, getD-tab, tab-ext}
 use Rattle.gains.specs.Gains.{mirror, mirrored, upper, gains, upper4, gains4, skipped4, upper2, gains2, skipped2}
 use Rattle.gains.proofs.Unread.{AgreeBut}
 use Rattle.scaling.specs.Scaling.{descaled}
-use Rattle.passes.specs.Passes.{Size, eight, four, two, dc, pass, columnPass, rowPass}
+use Rattle.passes.specs.Passes.{Size, four, two, pass, columnPass, rowPass}
 use Rattle.block.specs.Block.{columnOf, columns, rowOf, rowSamples, samples, block, firstRows, block12bit}
 
 -- f gives the same on inputs that agree but for the entries ks

@@ -1,13 +1,12 @@
 -- The second half of demand 3: a block's products are small, and its samples come back near.
 -- Assumes nothing.
-use mathlib.Core.Path.{_≡_, refl, sym, ap, subst, _∙_}
+use mathlib.Core.Path.{_≡_, sym, ap, subst, _∙_}
 use mathlib.Core.List.{List}
 use Prim.Native.Nat.{ℕ, _+_, _-_, _*_, _^_, _≤_, _<_, zero-le}
 use native.Mathlib.Omega.{arith}
 use lib.ListN.{getD}
 use lib.IntN.{ℤ, pos, natAbs, _-ℤ_, _*ℤ_, *ℤ-comm}
 use mir.Syntax.{w16}
-use mir.Val.{SFits}
 use Rattle.integers.proofs.Difference.{by-dif, differences, distance}
 use Rattle.integers.proofs.Bound.{small-fits}
 use Rattle.lists.specs.Tab.{tab}
@@ -18,7 +17,6 @@ use Rattle.forward.proofs.Folding.{sum-centred}
 use Rattle.forward.proofs.Scaled.{scaled-size}
 use Rattle.block.specs.Bound.{AtMost}
 use Rattle.stored_coefficients.specs.Dequantize.{product, dequantized}
-use Rattle.forward.specs.Canonical.{coefficients}
 use Rattle.gram.proofs.Rounding.{coefficient-nearest}
 use Rattle.gram.proofs.Reconstruction.{centred-within, quantized-reconstruction}
 use Rattle.accuracy.specs.Sample.{exactNumber}

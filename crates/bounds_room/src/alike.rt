@@ -20,7 +20,7 @@ fn squared_differences(a: &[u8; 64], b: &[u8; 64]) -> u64 {
 fn same_coefficients(a: &[u8; 64], b: &[u8; 64], quant: &[u8; 64]) -> bool {
     let mut out_a = [0i16; 64];
     let mut out_b = [0i16; 64];
-    let got = code_and_compare::code_and_compare(a, b, quant, &mut out_a, &mut out_b);
+    let got = round_trip::code_and_compare(a, b, quant, &mut out_a, &mut out_b);
     got.yes
 }
 

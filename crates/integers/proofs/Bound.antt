@@ -6,7 +6,7 @@ use Prim.Native.Nat.{ℕ, suc, _+_, _*_, _^_, _<_, _≤_, zero-le}
 use native.Mathlib.Nat.{le-refl, le-trans, lt-of-le-of-lt, le-of-eq, add-le-add, add-mul, mul-le-mul-left}
 use native.Mathlib.Omega.{arith}
 use lib.ListN.{getD}
-use lib.IntN.{ℤ, pos, negsuc, natAbs, _+ℤ_, _*ℤ_}
+use lib.IntN.{ℤ, pos, negsuc, natAbs, _*ℤ_}
 use lib.Signed.{mag}
 use mir.Syntax.{Width}
 use mir.Val.{SFits, hbits}

@@ -1,9 +1,9 @@
 -- The ring laws of ℤ that `lib.IntN` lacks, and sizes. Each is by `omega` on differences; `simp ring` proves an identity of polynomials.
 -- Assumes nothing.
 use mathlib.Core.Path.{_≡_, refl}
-use Prim.Native.Nat.{ℕ, suc, _+_, _*_, _≤_}
+use Prim.Native.Nat.{suc, _+_, _*_, _≤_}
 use native.Mathlib.Omega.{arith}
-use lib.IntN.{ℤ, pos, negsuc, negℤ, _+ℤ_, _-ℤ_, _*ℤ_, natAbs, +ℤ-assoc, +ℤ-comm, *ℤ-comm, negℤ-+ℤ}
+use lib.IntN.{ℤ, pos, negsuc, negℤ, _+ℤ_, _*ℤ_, natAbs, +ℤ-assoc, +ℤ-comm, *ℤ-comm, negℤ-+ℤ}
 use Rattle.integers.proofs.Difference.{dif-eq, by-dif, differences}
 
 pub +ℤ-left-comm : (x y z : ℤ) → x +ℤ (y +ℤ z) ≡ y +ℤ (x +ℤ z)

@@ -2,7 +2,7 @@
 -- which is x where x fits.
 -- Assumes nothing.
 use mathlib.Core.Path.{_≡_, refl, sym, ap, _∙_, subst}
-use mathlib.Core.Bool.{Bool, true, false}
+use mathlib.Core.Bool.{true, false}
 use Prim.Native.Nat.{ℕ, zero, suc, _+_, _-_, _*_, _/_, _%_, _^_, _<_, _≤_}
 use native.Mathlib.Nat.{mod-lt, div-add-mod', mul-le-mul-left, mul-lt-mul-of-pos-right, le-of-lt, lt-of-le-of-lt}
 use native.Mathlib.Omega.{arith}

@@ -1,4 +1,4 @@
-// The guarded quantizer and its divisors (crates transform_into and divisors_into).
+// The guarded quantizer and its divisors (crate transform_into).
 ghost use mathlib.Core.Path.{_≡_};
 ghost use mathlib.Core.List.{[], _∷_};
 ghost use Rattle.guarded_floats.specs.Divisors.{divisorsAnswer};
@@ -6,7 +6,7 @@ ghost use Rattle.refusals.specs.Refusals.{written};
 ghost use Rattle.guarded_floats.specs.Into.{madeStatus};
 ghost use Rattle.guarded_quantizer.specs.Answer.{guardedAnswer};
 ghost use Rattle.guarded_quantizer.specs.Into.{guardedStatus};
-use divisors_into::quantization_divisors_into;
+use transform_into::divisors::quantization_divisors_into;
 use transform_into::fdct_quantize_into;
 
 #[no_mangle]

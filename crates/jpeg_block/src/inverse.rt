@@ -1,14 +1,14 @@
-// The inverse blocks of 16-bit coefficients (crates idct, idct_reduced, idct_12bit).
+// The inverse blocks of 16-bit coefficients (crate idct).
 ghost use mathlib.Core.Path.{_≡_};
 ghost use Rattle.passes.specs.Passes.{eight, four, two};
 ghost use Rattle.block.specs.Block.{block, block12bit, firstRows, status, after};
 use idct::islow_block;
+use idct::islow_block_2x2;
+use idct::islow_block_4x4;
+use idct::islow_block_12bit;
+use idct::islow_block_12bit_2x2;
+use idct::islow_block_12bit_4x4;
 use idct::islow_block_top_half;
-use idct_12bit::islow_block_12bit;
-use idct_12bit::islow_block_12bit_2x2;
-use idct_12bit::islow_block_12bit_4x4;
-use idct_reduced::islow_block_2x2;
-use idct_reduced::islow_block_4x4;
 
 #[no_mangle]
 pub extern "C" fn jpeg_block_islow_block(input: &[i16], output: &mut [u8]) -> u32

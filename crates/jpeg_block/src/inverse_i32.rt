@@ -1,9 +1,9 @@
-// The inverse blocks of 32-bit coefficients (crate idct_i32).
+// The inverse blocks of 32-bit coefficients (idct::wide).
 ghost use mathlib.Core.Path.{_≡_};
 ghost use Rattle.passes.specs.Passes.{eight};
 ghost use Rattle.block.specs.Block.{block, firstRows, status, after};
-use idct_i32::islow_block_i32;
-use idct_i32::islow_block_top_half_i32;
+use idct::wide::islow_block_i32;
+use idct::wide::islow_block_top_half_i32;
 
 #[no_mangle]
 pub extern "C" fn jpeg_block_islow_block_i32(input: &[i32], output: &mut [u8]) -> u32

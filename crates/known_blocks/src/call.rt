@@ -71,23 +71,23 @@ fn narrow(function: usize, input: &[i16], output: &mut [u8]) -> u32 {
     match function {
         4 => idct::islow_block(input, output),
         5 => idct::islow_block_top_half(input, output),
-        6 => idct_reduced::islow_block_4x4(input, output),
-        _ => idct_reduced::islow_block_2x2(input, output),
+        6 => idct::islow_block_4x4(input, output),
+        _ => idct::islow_block_2x2(input, output),
     }
 }
 
 fn deep(function: usize, input: &[i16], output: &mut [u16]) -> u32 {
     match function {
-        8 => idct_12bit::islow_block_12bit(input, output),
-        9 => idct_12bit::islow_block_12bit_4x4(input, output),
-        _ => idct_12bit::islow_block_12bit_2x2(input, output),
+        8 => idct::islow_block_12bit(input, output),
+        9 => idct::islow_block_12bit_4x4(input, output),
+        _ => idct::islow_block_12bit_2x2(input, output),
     }
 }
 
 fn wide_block(function: usize, input: &[i32], output: &mut [u8]) -> u32 {
     match function {
-        11 => idct_i32::islow_block_i32(input, output),
-        _ => idct_i32::islow_block_top_half_i32(input, output),
+        11 => idct::wide::islow_block_i32(input, output),
+        _ => idct::wide::islow_block_top_half_i32(input, output),
     }
 }
 

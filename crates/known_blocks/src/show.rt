@@ -1,7 +1,5 @@
 // Prints an answer: its refusal and its numbers, where equal ones that follow each other are their
 // count and the number.
-ghost use Prim.Native.Nat.{_≤_};
-ghost use lib.ListN.{length};
 use crate::call::ROOM;
 use libc::STDOUT_FILENO;
 

@@ -15,23 +15,23 @@ fn narrow(function: usize, input: &[i16], output: &mut [u8]) -> u32 {
     match function {
         22 => idct::islow_block(input, output),
         24 => idct::islow_block_top_half(input, output),
-        26 => idct_reduced::islow_block_4x4(input, output),
-        _ => idct_reduced::islow_block_2x2(input, output),
+        26 => idct::islow_block_4x4(input, output),
+        _ => idct::islow_block_2x2(input, output),
     }
 }
 
 fn deep(function: usize, input: &[i16], output: &mut [u16]) -> u32 {
     match function {
-        28 => idct_12bit::islow_block_12bit(input, output),
-        29 => idct_12bit::islow_block_12bit_4x4(input, output),
-        _ => idct_12bit::islow_block_12bit_2x2(input, output),
+        28 => idct::islow_block_12bit(input, output),
+        29 => idct::islow_block_12bit_4x4(input, output),
+        _ => idct::islow_block_12bit_2x2(input, output),
     }
 }
 
 fn wide(function: usize, input: &[i32], output: &mut [u8]) -> u32 {
     match function {
-        23 => idct_i32::islow_block_i32(input, output),
-        _ => idct_i32::islow_block_top_half_i32(input, output),
+        23 => idct::wide::islow_block_i32(input, output),
+        _ => idct::wide::islow_block_top_half_i32(input, output),
     }
 }
 

@@ -1,7 +1,9 @@
 // The guarded quantizer with its answers in lent places, as C takes them (crate transform).
 //
 // Document 01 has no length of the divisors and no output for this entry. So these are tested last, and a call that the entry
-// refuses has the entry's number here too.
+// refuses has the entry's number here too. Its divisors are made in `divisors`.
+pub mod divisors;
+
 ghost use mathlib.Core.Path.{_≡_};
 ghost use mathlib.Core.List.{[], _∷_};
 ghost use lib.ListN.{length, getD};

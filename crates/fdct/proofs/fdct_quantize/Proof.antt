@@ -1,11 +1,7 @@
 -- `fdct::fdct_quantize` meets its contract. Assumes nothing.
 use mathlib.Core.Path.{_∙_}
 use borrow.Author.Needs.{needs}
-use native.Mathlib.Nat.{le-trans}
 use native.Mathlib.Omega.{arith}
-use mathlib.Core.List.{List}
-use Prim.Native.Nat.{ℕ, _≤_}
-use lib.IntN.{ℤ}
 use Rattle.lists.specs.Tab.{tab}
 use Rattle.forward.specs.Forward.{quantizedSum}
 use Rattle.forward.proofs.Canonical.{block-coefficients}

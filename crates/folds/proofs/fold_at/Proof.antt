@@ -1,7 +1,6 @@
 -- `folds::fold_at` meets its contract. Assumes nothing.
 use Prim.Native.Nat.{_^_, _≤_}
-use mathlib.Core.Path.{_≡_, sym, subst, _∙_}
-use borrow.Author.Needs.{needs}
+use mathlib.Core.Path.{sym, subst, _∙_}
 use native.Mathlib.Omega.{arith}
 use lib.IntN.{ℤ, natAbs, _+ℤ_}
 use mir.Syntax.{w16}

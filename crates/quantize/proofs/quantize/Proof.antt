@@ -1,12 +1,12 @@
 -- `quantize::quantize` meets its contract. Assumes nothing.
 use Prim.Native.Nat.{_+_, _*_, _/_, _^_, _<_, _≤_}
-use mathlib.Core.Path.{_≡_, sym, ap, _∙_}
+use mathlib.Core.Path.{_≡_, ap, _∙_}
 use borrow.Author.Needs.{needs}
 use native.Mathlib.Omega.{arith}
 use lib.IntN.{natAbs}
 use mir.ValLaws.{toZ-ofZ}
 use mir.Syntax.{w64}
-use Rattle.quantize.specs.Quantize.{divisorOf, rounded, withSign, coefficient}
+use Rattle.quantize.specs.Quantize.{divisorOf, rounded, coefficient}
 use Rattle.quantize.proofs.Halves.{rounded-steps, size-fits, quotient-fits, sized, negated-fits, negated-value, kept-value}
 use Rattle.quantize.proofs.quantize.Statement.{statement}
 use Rattle.quantize.proofs.quantize.Tie as tie

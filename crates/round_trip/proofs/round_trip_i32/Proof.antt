@@ -1,6 +1,4 @@
 -- `round_trip::round_trip_i32` meets its contract. Assumes nothing.
-use Prim.Native.Nat.{_≤_}
-use mathlib.Core.Path.{_∙_}
 use borrow.Author.Needs.{needs}
 use native.Mathlib.Omega.{arith}
 use Rattle.refusals.proofs.Refusals.{accepted-writes}

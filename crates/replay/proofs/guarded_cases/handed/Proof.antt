@@ -1,7 +1,6 @@
 -- `replay::guarded_cases::handed` is safe and ends. Assumes nothing.
 use Prim.Native.Nat.{_≤_, _-_}
 use native.Mathlib.Omega.{arith}
-use borrow.Author.Needs.{needs}
 use Rattle.replay.proofs.guarded_cases.handed.Statement.{statement}
 use Rattle.replay.proofs.guarded_cases.handed.Tie as tie
 
