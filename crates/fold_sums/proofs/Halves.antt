@@ -24,7 +24,7 @@ use Rattle.forward.specs.Sum.{sumTo, total}
 use Rattle.forward.specs.Forward.{foldSum}
 use Rattle.forward.proofs.Sum.{sum-ext, sum-add, sum-scale}
 use Rattle.forward.proofs.Scaled.{natAbs-products}
-use Rattle.fold_dots.specs.HalfSum.{halfSum}
+use Rattle.folds.specs.HalfSum.{halfSum}
 
 -- the halves of the 16 entries of each frequency, computed
 high-small : (n : ℕ) → n < 64 → total 16 (λ k. natAbs (high (entry n (k / 4) (k % 4)))) ≤ 2 ^ 18 - 1

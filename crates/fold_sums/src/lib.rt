@@ -9,8 +9,8 @@ ghost use lib.IntN.{pos, natAbs, _+ℤ_, _*ℤ_};
 ghost use mir.Syntax.{w32};
 ghost use Rattle.integers.specs.Wrap.{wrap};
 ghost use Rattle.lists.specs.Tab.{tab};
-ghost use Rattle.fold_dots.specs.HalfSum.{halfSum};
-use fold_dots::four_sums;
+ghost use Rattle.folds.specs.HalfSum.{halfSum};
+use folds::dots::four_sums;
 
 // The sums against one half of the basis for the 16 frequencies of one parity, n = 8v + u rising.
 pub fn half_sums(f: &[i16; 16], half: &[i16; 1024], u: usize, v: usize) -> [i32; 16]

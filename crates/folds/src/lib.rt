@@ -1,7 +1,10 @@
 // The folds of the canonical forward transform (fdct.rs, `fold`; document 01, leaf 4).
 //
 // Centred samples of up to 12 bits pair to at most 2^12 and fold to at most 2^13, so 16 bits hold them and nothing wraps. A row is
-// written out, so that the compiler makes eight samples at a time of it; of a loop over all 16 places it does not.
+// written out, so that the compiler makes eight samples at a time of it; of a loop over all 16 places it does not. Their sums against
+// the halves of the basis are in `dots`.
+pub mod dots;
+
 ghost use mathlib.Core.Path.{_≡_};
 ghost use Prim.Native.Nat.{ℕ, _+_, _^_, _≤_, _<_};
 ghost use lib.ListN.{getD};

@@ -1,4 +1,6 @@
-// Numbers of 32 bits that fit 16 bits: the test, and the fact told to the compiler.
+// Numbers of 32 bits that fit 16 bits: the test, and the fact told to the compiler; in `block`, 64 of them at once.
+pub mod block;
+
 ghost use mathlib.Core.Path.{_≡_};
 ghost use Prim.Native.Nat.{_≤_, _<_, _^_};
 ghost use lib.Dec.{ltb};

@@ -10,7 +10,7 @@ use dequantize::dequantize;
 use fdct::fdct_quantize;
 use idct::islow_block;
 use idct::wide::islow_block_i32;
-use narrow_block::narrow_all;
+use narrow::block::narrow_all;
 use stored_blocks::same;
 use stored_coefficients::Answer;
 

@@ -18,7 +18,7 @@ use Rattle.quantize.specs.Quantize.{coefficient}
 use Rattle.forward.specs.Forward.{centredSum, foldOf, quantizedSum, parityWritten}
 use Rattle.forward.proofs.Scaled.{fold-size, fold-read, sum-small}
 use Rattle.forward.proofs.Parity.{placeOf, place-u, place-v, partly, length-partly, parity-none, parity-more, parity-all}
-use Rattle.fold_dots.specs.HalfSum.{halfSum}
+use Rattle.folds.specs.HalfSum.{halfSum}
 use Rattle.fold_sums.proofs.Halves.{halves-sum}
 use Rattle.fdct_parity.proofs.write_parity.Statement.{statement}
 use Rattle.fdct_parity.proofs.write_parity.Tie as tie

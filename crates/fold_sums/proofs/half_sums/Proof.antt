@@ -11,7 +11,7 @@ use mir.Val.{SFits, toZ, ofZ}
 use mir.ValLaws.{toZ-ofZ}
 use Rattle.integers.specs.Wrap.{wrap}
 use Rattle.lists.proofs.Tab.{Filled, none, more, all}
-use Rattle.fold_dots.specs.HalfSum.{halfSum}
+use Rattle.folds.specs.HalfSum.{halfSum}
 use Rattle.fold_sums.proofs.half_sums.Statement.{statement}
 use Rattle.fold_sums.proofs.half_sums.Tie as tie
 

@@ -1,4 +1,4 @@
--- `fold_dots::add_product` meets its contract. Assumes nothing.
+-- `folds::dots::add_product` meets its contract. Assumes nothing.
 use mathlib.Core.Path.{_≡_, sym, _∙_}
 use borrow.Author.Needs.{needs}
 use native.Mathlib.Omega.{arith}
@@ -9,8 +9,8 @@ use mir.Val.{SFits, toZ, ofZ}
 use mir.ValLaws.{toZ-ofZ}
 use Rattle.integers.specs.Wrap.{wrap}
 use Rattle.integers.proofs.Wrap.{wrap-id, wrap-read, wrap-+}
-use Rattle.fold_dots.proofs.add_product.Statement.{statement}
-use Rattle.fold_dots.proofs.add_product.Tie as tie
+use Rattle.folds.proofs.dots.add_product.Statement.{statement}
+use Rattle.folds.proofs.dots.add_product.Tie as tie
 
 -- a wrapped product, added to a number that fits
 step : (s p : ℤ) {q r : ℤ} → SFits w32 s → q ≡ wrap w32 p → r ≡ wrap w32 (toZ w32 (ofZ w32 s) +ℤ toZ w32 (ofZ w32 q)) → toZ w32 (ofZ w32 r) ≡ wrap w32 (s +ℤ p)

@@ -9,7 +9,7 @@ ghost use lib.ListN.{getD};
 ghost use lib.IntN.{pos, _+ℤ_, _*ℤ_};
 ghost use mir.Syntax.{w32};
 ghost use Rattle.integers.specs.Wrap.{wrap};
-ghost use Rattle.fold_dots.specs.HalfSum.{halfSum};
+ghost use Rattle.folds.specs.HalfSum.{halfSum};
 use word::wrapping_add_i32;
 use word::wrapping_mul_i32;
 

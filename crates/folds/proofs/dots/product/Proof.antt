@@ -1,12 +1,12 @@
--- `fold_dots::product` meets its contract. Assumes nothing.
+-- `folds::dots::product` meets its contract. Assumes nothing.
 use mathlib.Core.Path.{_∙_}
 use lib.IntN.{_*ℤ_}
 use mir.Syntax.{w16, w32}
 use Rattle.integers.specs.Wrap.{wrap}
 use Rattle.integers.proofs.Wrap.{wrap-read}
 use Rattle.integers.proofs.Word.{widens, widened}
-use Rattle.fold_dots.proofs.product.Statement.{statement}
-use Rattle.fold_dots.proofs.product.Tie as tie
+use Rattle.folds.proofs.dots.product.Statement.{statement}
+use Rattle.folds.proofs.dots.product.Tie as tie
 
 returns : tie.Need-returns
 returns c =

@@ -1,4 +1,4 @@
--- `fold_dots::four_sums` meets its contract. Assumes nothing.
+-- `folds::dots::four_sums` meets its contract. Assumes nothing.
 use Prim.Native.Nat.{ℕ, suc, _≤_, _-_, _+_, _*_}
 use mathlib.Core.List.{List, [], _∷_}
 use mathlib.Core.Path.{_≡_, sym, ap, _∙_}
@@ -11,9 +11,9 @@ use Rattle.integers.specs.Wrap.{wrap}
 use Rattle.integers.proofs.Congruence.{itself, plus}
 use Rattle.integers.proofs.Wrap.{wrap-id, wrap-read, wrap-cong, wrap-congruent}
 use Rattle.forward.specs.Sum.{sumTo}
-use Rattle.fold_dots.specs.HalfSum.{halfSum}
-use Rattle.fold_dots.proofs.four_sums.Statement.{statement}
-use Rattle.fold_dots.proofs.four_sums.Tie as tie
+use Rattle.folds.specs.HalfSum.{halfSum}
+use Rattle.folds.proofs.dots.four_sums.Statement.{statement}
+use Rattle.folds.proofs.dots.four_sums.Tie as tie
 
 -- the first k terms of the sum for n, as a local holds them
 abbrev Summed : List ℤ → List ℤ → ℕ → ℕ → ℕ → Type 0

@@ -1,4 +1,4 @@
--- `narrow_block::narrow_all` meets its contract. Assumes nothing.
+-- `narrow::block::narrow_all` meets its contract. Assumes nothing.
 use Prim.Native.Nat.{_≤_, _-_}
 use mathlib.Core.Path.{refl, sym, ap, subst, _∙_}
 use native.Mathlib.Omega.{arith}
@@ -9,8 +9,8 @@ use mir.Syntax.{w16, w32}
 use mir.Val.{SFits, toZ, ofZ}
 use mir.ValLaws.{toZ-ofZ}
 use Rattle.lists.proofs.Tab.{Filled, none, more, all}
-use Rattle.narrow_block.proofs.narrow_all.Statement.{statement}
-use Rattle.narrow_block.proofs.narrow_all.Tie as tie
+use Rattle.narrow.proofs.block.narrow_all.Statement.{statement}
+use Rattle.narrow.proofs.block.narrow_all.Tie as tie
 
 abbrev Inv-loop : tie.InvT-loop
 Inv-loop wide out₀ n₀ out n = (n ≤ 64) × Filled (λ k. getD wide k (pos 0)) 64 n out
