@@ -3,7 +3,11 @@
 //! `rt staticlib jpeg_block` writes the archive; a crate takes this file as a
 //! module and is linked with `-L native=` its folder. A refusal is `Err` of its
 //! number, and then nothing is written. A slice meets what the header asks of a
-//! caller, so the functions are safe.
+//! caller, so the functions are safe. Quantizers are of 8 bits, and the guarded
+//! quantizer and its divisors want the default floating-point environment.
+
+// A program that takes this file as a module calls a part of it.
+#![allow(dead_code)]
 
 /// The functions as the archive has them: a slice is a pointer and a length.
 pub mod raw {

@@ -12,6 +12,8 @@
  *   4  an index above 63
  *   5  a quantizer 0 anywhere
  *
+ * Quantizers are of 8 bits: a table of T.81 with 16-bit entries is not taken.
+ *
  * The tests run in the order in which each function lists its numbers, and the first that fails is answered. No function keeps a
  * pointer, allocates, or has a state: calls may run in parallel, also over shared inputs.
  *
@@ -64,7 +66,8 @@ uint32_t jpeg_block_fdct_quantize(const uint8_t *block, size_t block_len, const 
 uint32_t jpeg_block_fdct_quantize_coefficient(const uint8_t *block, size_t block_len, uint8_t quantizer, size_t natural, int16_t *out, size_t out_len);
 
 /* The guarded quantizer of 64 samples of 8 bits: a transform in binary64 and one product for each coefficient; where that lies less
- * than 2^-19 from a half the canonical coefficient stands. */
+ * than 2^-19 from a half the canonical coefficient stands. It and its divisors want the default floating-point environment: rounding to
+ * nearest, ties to even, and subnormal numbers kept. */
 
 /* The divisors of a table, which each call of the guarded quantizer takes; out_len 64. Refusals 2, 5, 3. */
 uint32_t jpeg_block_quantization_divisors(const uint8_t *quant, size_t quant_len, double *out, size_t out_len);

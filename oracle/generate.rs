@@ -1,5 +1,6 @@
 //! Writes a fixed list of the oracle's answers, one file for each function, and
-//! those of stored.rs for what the oracle does not have.
+//! those of stored.rs for what the oracle does not have; and a file with one
+//! wrong answer, which shows that the replay sees a difference.
 //!
 //! A file is a text header of 256 bytes, then cases of one size: the inputs,
 //! then the answers, little-endian. Boundary cases come first, then random
@@ -27,6 +28,8 @@ const HEADER: usize = 256;
 /// Whose answers a file holds.
 const ORACLE: &str = "the answers of frames-sg/j2k at 0c61cb298a built with rustc";
 const HARNESS: &str = "the answers of oracle/stored.rs, in 64-bit integers";
+const WRONG: &str = "answers of islow_block of frames-sg/j2k at 0c61cb298a, \
+                     but sample 63 of the second record is changed";
 
 /// What a case is made of.
 trait Put {
@@ -211,16 +214,18 @@ impl Answers {
         inputs: &[I],
         answer: impl Fn(I) -> A,
     ) {
-        self.save_from(ORACLE, name, layout, inputs, answer);
+        self.save_from(ORACLE, name, layout, inputs, answer, 0);
     }
 
+    /// `wrong` says how many of the answers are meant to differ.
     fn save_from<I: Put + Copy, A: Put>(
         &mut self,
         source: &str,
         name: &str,
         layout: &str,
         inputs: &[I],
-        answer: impl Fn(I) -> A,
+        mut answer: impl FnMut(I) -> A,
+        wrong: usize,
     ) {
         let count = inputs.len();
         let mut bytes = format!(
@@ -237,11 +242,11 @@ impl Answers {
             answer(input).put(&mut bytes);
         }
         std::fs::write(self.folder.join(name), bytes).expect("the folder takes the file");
-        self.lines += &format!("{name} {count} cases 0 differences\n");
+        self.lines += &format!("{name} {count} cases {wrong} differences\n");
     }
 }
 
-fn word(to: &mut Answers) {
+fn wrapping(to: &mut Answers) {
     let pairs32 = pairs::<i32>(2_000);
     let layout = "a i32, b i32; answer i32";
     to.save("wrapping_add_i32", layout, &pairs32, |(a, b)| {
@@ -524,6 +529,7 @@ fn stored_entries(to: &mut Answers) {
         "coefficients [i16; 64], quant [u8; 64]; answer [i32; 64]",
         &blocks,
         dequantized,
+        0,
     );
     to.save_from(
         HARNESS,
@@ -531,6 +537,7 @@ fn stored_entries(to: &mut Answers) {
         "coefficients [i16; 64], quant [u8; 64]; answer u8, 1 for yes",
         &blocks,
         screened,
+        0,
     );
     to.save_from(
         HARNESS,
@@ -538,6 +545,29 @@ fn stored_entries(to: &mut Answers) {
         "a [i16; 64], b [i16; 64]; answer u8, 1 for yes",
         &pairs_of_blocks(1_200),
         same,
+        0,
+    );
+}
+
+/// Three records of `islow_block`. The answer of the second is wrong at one place.
+fn deliberately_wrong(to: &mut Answers) {
+    let inputs = blocks::<i16>(&CLAMP_8BIT, 2_000);
+    let right = samples(idct::islow_block);
+    let mut record = 0;
+    to.save_from(
+        WRONG,
+        "deliberately_wrong",
+        "input [i16; 64]; output [u8; 64]",
+        &inputs[inputs.len() - 3..],
+        |input| {
+            let mut output: [u8; 64] = right(input);
+            record += 1;
+            if record == 2 {
+                output[63] ^= 1;
+            }
+            output
+        },
+        1,
     );
 }
 
@@ -549,7 +579,7 @@ fn main() {
         folder,
         lines: String::new(),
     };
-    word(&mut to);
+    wrapping(&mut to);
     scaling(&mut to);
     islow(&mut to);
     islow_i64(&mut to);
@@ -560,5 +590,6 @@ fn main() {
     zigzag(&mut to);
     stored_entries(&mut to);
     guarded_entries(&mut to);
+    deliberately_wrong(&mut to);
     std::fs::write(lines, to.lines).expect("the lines are written");
 }

@@ -11,7 +11,7 @@ use Rattle.lists.specs.Below.{below}
 use Rattle.lists.proofs.Below.{below-at}
 use Rattle.gains.specs.Gains.{mirror, mirrored, upper, gains}
 use Rattle.basis.specs.Cosine.{cosines}
-use Rattle.basis.specs.Basis.{reduced, cosineOf, negated, signed, factor, entry, near, mirrors, basis}
+use Rattle.basis.specs.Basis.{reduced, cosineOf, negated, signed, factor, entry, reflected, mirrors, basis}
 use Rattle.forward.specs.Sum.{total}
 use Rattle.accuracy.proofs.Gains.{gainOf}
 
@@ -23,7 +23,7 @@ within : List (List ℤ) → Bool
 within rows = below 64 (λ p. leb (distance rows (p % 8) (p / 8)) 2818546)
 
 computed : T (within gains)
-unfolding below total mirror mirrored upper gains gainOf cosines reduced cosineOf negated signed factor entry near mirrors basis distance within
+unfolding below total mirror mirrored upper gains gainOf cosines reduced cosineOf negated signed factor entry reflected mirrors basis distance within
 computed = tt
 
 pub products-near : (x y : ℕ) → x < 8 → y < 8 → distance gains x y ≤ 2818546

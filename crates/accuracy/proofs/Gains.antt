@@ -30,7 +30,7 @@ gainOf rows j k = getD (getD rows j []) k (pos 0)
 abbrev pub gain : ℕ → ℕ → ℤ
 gain = gainOf gains
 
--- the largest sum of the sizes of one row's gains
+-- the largest sum of the absolute values of one row's gains
 pub gains-weight : (j : ℕ) → j < 8 → total 8 (λ k. natAbs (gain j k)) ≤ 61214
 unfolding gainOf below total mirror mirrored upper gains
 gains-weight j h = leb→le _ _ (below-at 8 (λ i. leb (total 8 (λ k. natAbs (gain i k))) 61214) tt j h)
@@ -53,7 +53,7 @@ module _ (f : ℕ → ℤ) where
       ap (λ (row : List ℤ). dot row (tab 8 f)) (sym (tab-getD (pos 0) (getD gains j []) 8 (row-length j h)))
       ∙ dot-tab 8 (gain j) f ∙ sum-ext 8 _ _ (λ k b. *ℤ-comm (gain j k) (f k))
 
-  -- numbers of size B
+  -- numbers of at most B in absolute value
   module _ (B : ℕ) (small : (k : ℕ) → k < 8 → natAbs (f k) ≤ B) (j : ℕ) (h : j < 8) where
     pub sum-size : natAbs (sumBy j) ≤ B * 61214
     sum-size = le-trans (natAbs-products 8 B f (gain j) small) (mul-le-mul-left B (gains-weight j h))

@@ -1,4 +1,4 @@
--- The 8-bit 8×8 inverse of coefficients of size 1151 at most: nothing wraps, the shortcuts are the full passes, each pass rounds to
+-- The 8-bit 8×8 inverse of coefficients of at most 1151 in absolute value: nothing wraps, the shortcuts are the full passes, each pass rounds to
 -- the nearest, and so the numbers before the clamp are near the exact ones. (|S(n)| ≤ 2^42, so a coefficient times its divisor is at
 -- most 1024 + 127.5.)
 -- Assumes nothing.

@@ -56,7 +56,7 @@ module _ (f g D : ℕ → ℤ) where
       ∙ sym (sum-rows (λ n. product n *ℤ D n) 8 8)
 
   -- c: what the column passes give, v: what the row pass gives of it, both to the nearest; L: the weight of g; B: numbers of which
-  -- the products are 8 times less, but for P altogether; M: the size of the coefficients
+  -- the products are 8 times less, but for P altogether; M: the largest absolute value of the coefficients
   pub two-passes : (c B : ℕ → ℤ) (v : ℤ) (L P M : ℕ) →
       ((u : ℕ) → u < 8 → natAbs (pos (2 ^ 11) *ℤ c u -ℤ columnSum u) ≤ 2 ^ 10) →
       natAbs (pos (2 ^ 18) *ℤ v -ℤ sumTo 8 (λ u. c u *ℤ g u)) ≤ 2 ^ 17 →

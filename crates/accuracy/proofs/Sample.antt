@@ -23,7 +23,7 @@ clamp-nearer top a (negsuc n) h = omega arith
 through : (a v T : ℤ) → 2 ^ 32 * natAbs (a -ℤ (v +ℤ pos 128)) ≤ natAbs (pos (2 ^ 32) *ℤ (a -ℤ pos 128) -ℤ T) + natAbs (pos (2 ^ 32) *ℤ v -ℤ T)
 through = by-dif _ λ a b. by-dif _ λ c d. by-dif _ λ e f. simp differences (omega arith)
 
--- 2^32·|2^32·(a - 128) - T| ≤ 128·R + 2^31·W is what `quantized-reconstruction` of the crate `gram` gives of a block's sample a
+-- 2^32·|2^32·(a - 128) - T| ≤ 128·R + 2^31·W is what `quantized-reconstruction` of the crate `orthogonality` gives of a block's sample a
 pub comes-back : (D : List ℤ) → AtMost 1151 D → (x y : ℕ) → x < 8 → y < 8 → (a W : ℕ) → a ≤ 255 →
     2 ^ 32 * natAbs (pos (2 ^ 32) *ℤ (pos a -ℤ pos 128) -ℤ exactNumber D x y) ≤ 128 * 90146332016 + 2 ^ 31 * W →
     2 ^ 33 * natAbs (pos a -ℤ pos (getD (block eight D) (8 * y + x) 0)) ≤ 2 ^ 34 + W

@@ -8,14 +8,14 @@ use native.Mathlib.Omega.{arith}
 use borrow.Author.Tests.{lt-ltb, le-ltb}
 use lib.Dec.{eqb, ltb}
 use lib.IntN.{ℤ, negℤ, negℤ-negℤ}
-use Rattle.basis.specs.Basis.{signed, entry, near, mirrors, basis}
+use Rattle.basis.specs.Basis.{signed, entry, reflected, mirrors, basis}
 
 -- u is odd
 abbrev pub odd : ℕ → Bool
 odd u = eqb (u % 2) 1
 
-near-mirror : (x : ℕ) → x < 8 → near (7 - x) ≡ near x
-unfolding near
+near-mirror : (x : ℕ) → x < 8 → reflected (7 - x) ≡ reflected x
+unfolding reflected
 near-mirror x h = go (decLt 3 x)
   where
     go : Dec (3 < x) → cond (ltb 3 (7 - x)) (7 - (7 - x)) (7 - x) ≡ cond (ltb 3 x) (7 - x) x
@@ -45,10 +45,10 @@ swap false false z = refl
 
 pub mirror-x : (n x y : ℕ) → x < 8 → basis n (7 - x) y ≡ signed (odd (n % 8)) (basis n x y)
 unfolding basis
-mirror-x n x y h = ap (λ (k : ℕ). signed (mirrors (n % 8) (7 - x)) (signed (mirrors (n / 8) y) (entry n (near y) k))) (near-mirror x h) ∙ flips (n % 8) x h _
+mirror-x n x y h = ap (λ (k : ℕ). signed (mirrors (n % 8) (7 - x)) (signed (mirrors (n / 8) y) (entry n (reflected y) k))) (near-mirror x h) ∙ flips (n % 8) x h _
 
 pub mirror-y : (n x y : ℕ) → y < 8 → basis n x (7 - y) ≡ signed (odd (n / 8)) (basis n x y)
 unfolding basis
 mirror-y n x y h =
-    ap (λ (k : ℕ). signed (mirrors (n % 8) x) (signed (mirrors (n / 8) (7 - y)) (entry n k (near x)))) (near-mirror y h)
+    ap (λ (k : ℕ). signed (mirrors (n % 8) x) (signed (mirrors (n / 8) (7 - y)) (entry n k (reflected x)))) (near-mirror y h)
     ∙ ap (signed (mirrors (n % 8) x)) (flips (n / 8) y h _) ∙ swap (mirrors (n % 8) x) (odd (n / 8)) _

@@ -40,11 +40,11 @@ unfoldable pub basisTable : List ℤ
 basisTable = tab 1024 (λ i. entry (i / 16) (i / 4 % 4) (i % 4))
 
 -- "For x above 3 mirror to 7-x and negate if u is odd; likewise y and v": the basis for n at (x, y)
-unfoldable pub near : ℕ → ℕ
-near x = cond (ltb 3 x) (7 - x) x
+unfoldable pub reflected : ℕ → ℕ
+reflected x = cond (ltb 3 x) (7 - x) x
 
 unfoldable pub mirrors : ℕ → ℕ → Bool
 mirrors u x = ltb 3 x && eqb (u % 2) 1
 
 unfoldable pub basis : ℕ → ℕ → ℕ → ℤ
-basis n x y = signed (mirrors (n % 8) x) (signed (mirrors (n / 8) y) (entry n (near y) (near x)))
+basis n x y = signed (mirrors (n % 8) x) (signed (mirrors (n / 8) y) (entry n (reflected y) (reflected x)))

@@ -6,11 +6,8 @@
 ghost use mathlib.Core.Path.{_≡_};
 ghost use Rattle.basis.specs.Basis.{basisTable};
 
-// Fraction bits of the basis.
-pub const FRACTION_BITS: u32 = 32;
-
 // Entry 16n + 4·row + column.
-pub const BASIS: [i32; 1024] = [
+const BASIS: [i32; 1024] = [
     536870912,
     536870912,
     536870912,
@@ -1037,7 +1034,8 @@ pub const BASIS: [i32; 1024] = [
     1032874959,
 ];
 
-// BASIS, as a value that a contract can speak of. Take it once, outside of loops: it is copied.
+// BASIS, as a value that a contract can speak of. Of entries that are read at places known in advance the compiler makes immediates;
+// else the table is copied to the stack, so take it once, outside of loops.
 pub fn basis_table() -> [i32; 1024]
     ensures { λ r. ⌜ r ≡ basisTable ⌝ }
 {

@@ -13,6 +13,7 @@ use lib.Pow.{pow-mono, pow-lt}
 use lib.IntN.{ℤ, pos, natAbs, _+ℤ_, _*ℤ_, +ℤ-idr}
 use mir.Syntax.{w32}
 use mir.Val.{SFits}
+use Rattle.integers.specs.Fits16.{Fits16}
 use Rattle.integers.specs.Wrap.{wrap}
 use Rattle.integers.specs.Floor.{floorDiv}
 use Rattle.integers.specs.Linear.{dot, transform, listed, zeroAt, blank}
@@ -23,13 +24,14 @@ use Rattle.integers.proofs.Bound.{mag-le}
 use Rattle.integers.proofs.Agree.{zero-entry, transform-agree}
 use Rattle.lists.proofs.Tab.{length-tab, tab-ext}
 use Rattle.lists.specs.Below.{below}
+use Rattle.lists.specs.Every.{Every}
 use Rattle.lists.proofs.Below.{below-at}
 use Rattle.gains.specs.Gains.{mirror, mirrored, upper, gains, upper4, gains4, skipped4, upper2, gains2, skipped2}
 use Rattle.gains.proofs.Unread.{AgreeBut}
 use Rattle.scaling.specs.Scaling.{descaled}
 use Rattle.scaling.proofs.Rounding.{descaled-exact}
 use Rattle.passes.specs.Passes.{Size, eight, four, two, dc, pass, columnPass}
-use Rattle.block.specs.Bound.{AtMost}
+use Rattle.block.proofs.Exact.{fits-at-most}
 use Rattle.block.specs.Block.{columnOf, columns}
 
 fits : (z : ℤ) → natAbs z < 2 ^ 31 → SFits w32 z
@@ -77,7 +79,7 @@ module _ (z : Size) (ks : List ℕ) (b : T (blank ks (z .matrix)))
       go false e = refl
 
   -- a column of p0 alone gives 4·p0
-  pub column-full : ((a : ℤ) → natAbs a ≤ 2 ^ 15 → pass w32 (z .matrix) (11 + z .extra) (a ∷ []) ≡ replicate (z .side) (wrap w32 (pos 4 *ℤ a))) →
+  column-full : ((a : ℤ) → natAbs a ≤ 2 ^ 15 → pass w32 (z .matrix) (11 + z .extra) (a ∷ []) ≡ replicate (z .side) (wrap w32 (pos 4 *ℤ a))) →
       (p : List ℤ) → length p ≡ 8 → natAbs (dc p) ≤ 2 ^ 15 → pass w32 (z .matrix) (11 + z .extra) p ≡ columnPass z p
   unfolding columnPass
   column-full = shortcut (11 + z .extra) (2 ^ 15) (λ a. wrap w32 (pos 4 *ℤ a))
@@ -98,6 +100,6 @@ unfolding pass transform dot two zeroAt listed blank below mirror mirrored upper
 column-two = column-full two skipped2 tt tt (λ a m. ap (replicate 2) (solo-entry 13 (lit≤ tt) (lit≤ tt) a m))
 
 -- the columns of a block of 16-bit numbers
-pub columns-eight : (xs : List ℤ) → ((u : ℕ) → u < 8 → AtMost (2 ^ 15) (columnOf xs u)) → columns (pass w32 gains 11) xs ≡ columns (columnPass eight) xs
+pub columns-eight : (xs : List ℤ) → ((u : ℕ) → u < 8 → Every Fits16 (columnOf xs u)) → columns (pass w32 gains 11) xs ≡ columns (columnPass eight) xs
 unfolding columns columnOf
-columns-eight xs h = tab-ext 8 _ _ (λ u b. column-eight (columnOf xs u) (length-tab 8 _) (h u b 0))
+columns-eight xs h = tab-ext 8 _ _ (λ u b. column-eight (columnOf xs u) (length-tab 8 _) (fits-at-most (h u b) 0))

@@ -12,12 +12,16 @@ use lib.IntN.{ℤ, pos, negsuc, natAbs, _+ℤ_}
 use mir.Facts.{and-yes}
 use mir.Syntax.{Width, w32, w64}
 use mir.Val.{hbits}
+use Rattle.integers.specs.Fits16.{Fits16}
 use Rattle.integers.specs.Wrap.{wrap}
 use Rattle.integers.specs.Floor.{floorDiv}
 use Rattle.integers.specs.Linear.{dot, transform, weight}
+use Rattle.integers.proofs.Fits16.{fits16-zero, fits16-abs}
 use Rattle.integers.proofs.Ring.{natAbs-+}
 use Rattle.integers.proofs.Bound.{natAbs-dot, mag-le, wrap-dot}
+use Rattle.lists.specs.Every.{Every}
 use Rattle.lists.specs.Tab.{tab}
+use Rattle.lists.proofs.Every.{every-at}
 use Rattle.lists.proofs.Tab.{getD-tab, getD-every, tab-ext}
 use Rattle.gains.specs.Gains.{mirror, mirrored, upper, gains, upper4, gains4, upper2, gains2}
 use Rattle.scaling.specs.Scaling.{descaled}
@@ -38,7 +42,7 @@ exact-at [] s p k h = absurd (omega arith)
 exact-at (row ∷ rows) s p zero h = refl
 exact-at (row ∷ rows) s p (suc k) h = exact-at rows s p k (omega arith)
 
--- every row's sum of numbers of size B, with its rounding, stays below L
+-- every row's sum of numbers of absolute value at most B, with its rounding, stays below L
 unfoldable pub light : ℕ → ℕ → ℕ → List (List ℤ) → Bool
 light L B s [] = true
 light L B s (row ∷ rows) = ltb (weight row * B + 2 ^ (s - 1)) L && light L B s rows
@@ -77,7 +81,11 @@ module _ (p : List ℤ) (B : ℕ) (h : (k : ℕ) → natAbs (getD p k (pos 0)) �
 pub tab-at-most : (B n : ℕ) (f : ℕ → ℤ) → ((k : ℕ) → k < n → natAbs (f k) ≤ B) → AtMost B (tab n f)
 tab-at-most B n f h = getD-every (λ (z : ℤ). natAbs z ≤ B) n f (pos 0) zero-le h
 
-pub column-at-most : (B : ℕ) (xs : List ℤ) → AtMost B xs → (u : ℕ) → AtMost B (columnOf xs u)
+-- numbers of 16 bits
+pub fits-at-most : {p : List ℤ} → Every Fits16 p → AtMost (2 ^ 15) p
+fits-at-most h k = fits16-abs _ (every-at h (pos 0) fits16-zero k)
+
+column-at-most : (B : ℕ) (xs : List ℤ) → AtMost B xs → (u : ℕ) → AtMost B (columnOf xs u)
 unfolding columnOf
 column-at-most B xs h u = tab-at-most B 8 _ (λ v b. h (8 * v + u))
 
@@ -86,7 +94,7 @@ unfolding rowOf columns
 row-at-most B column xs h y = tab-at-most B 8 _ (λ u b. rw (getD-tab 8 (λ u. column (columnOf xs u)) [] u b) (h u y))
 
 -- passes that agree on what they are given make the same block
-pub samples-cong : (column row column′ row′ : List ℤ → List ℤ) (xs : List ℤ) → ((u : ℕ) → column (columnOf xs u) ≡ column′ (columnOf xs u)) →
+samples-cong : (column row column′ row′ : List ℤ → List ℤ) (xs : List ℤ) → ((u : ℕ) → column (columnOf xs u) ≡ column′ (columnOf xs u)) →
     ((y : ℕ) → row (rowOf (columns column′ xs) y) ≡ row′ (rowOf (columns column′ xs) y)) → (clamp : ℤ → ℕ) (n : ℕ) → samples column row clamp n xs ≡ samples column′ row′ clamp n xs
 unfolding samples rowSamples columns
 samples-cong column row column′ row′ xs c r clamp n =
@@ -116,11 +124,11 @@ unfolding two light weight mirror mirrored upper2 gains2
 exact-two = exact two tt tt tt
 
 -- the 8-point column pass of 16-bit numbers fits 32 bits too
-pub narrow-column : (p : List ℤ) → AtMost (2 ^ 15) p → pass w32 gains 12 p ≡ pass w64 gains 12 p
+column-at-32 : (p : List ℤ) → AtMost (2 ^ 15) p → pass w32 gains 12 p ≡ pass w64 gains 12 p
 unfolding light weight mirror mirrored upper gains
-narrow-column p h = pass-exact p (2 ^ 15) h 12 w32 gains tt ∙ sym (pass-exact p (2 ^ 15) h 12 w64 gains tt)
+column-at-32 p h = pass-exact p (2 ^ 15) h 12 w32 gains tt ∙ sym (pass-exact p (2 ^ 15) h 12 w64 gains tt)
 
 -- and so do the columns of a block of 16-bit numbers
-pub columns-narrow : (xs : List ℤ) → ((u : ℕ) → u < 8 → AtMost (2 ^ 15) (columnOf xs u)) → columns (pass w32 gains 12) xs ≡ columns (pass w64 gains 12) xs
+pub columns-narrow : (xs : List ℤ) → ((u : ℕ) → u < 8 → Every Fits16 (columnOf xs u)) → columns (pass w32 gains 12) xs ≡ columns (pass w64 gains 12) xs
 unfolding columns
-columns-narrow xs h = tab-ext 8 _ _ (λ u b. narrow-column (columnOf xs u) (h u b))
+columns-narrow xs h = tab-ext 8 _ _ (λ u b. column-at-32 (columnOf xs u) (fits-at-most (h u b)))

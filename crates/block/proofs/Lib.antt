@@ -5,5 +5,4 @@ pub mod Exact
 pub mod Load
 pub mod Store
 pub mod Rows
-pub mod Entry
-pub mod Reduced
+pub mod Steps

@@ -1,13 +1,15 @@
 -- Document 01, "The inverse blocks". A block is 64 numbers in natural order: index 8v + u for frequencies, 8y + x for samples.
 -- "Columns first, then rows": a pass over each column, a pass over each row of what they give, and the clamp of each number.
 use mathlib.Core.Bool.{cond}
-use mathlib.Core.List.{List, []}
+use mathlib.Core.List.{List, [], _∷_}
 use Prim.Native.Nat.{ℕ, _+_, _*_, _/_, _%_}
-use lib.Dec.{eqb, ltb}
+use lib.Dec.{ltb}
 use lib.ListN.{length, getD}
 use lib.IntN.{ℤ, pos}
 use mir.Syntax.{w64}
+use Rattle.integers.specs.Linear.{listed}
 use Rattle.lists.specs.Tab.{tab}
+use Rattle.refusals.specs.Refusals.{Test, _unless_, _of_}
 use Rattle.clamping.specs.Clamping.{sampleU8, sample12bit}
 use Rattle.passes.specs.Passes.{Size, pass, columnPass, rowPass}
 
@@ -39,14 +41,14 @@ block z xs = samples (columnPass z) (rowPass z) sampleU8 (z .side) xs
 unfoldable pub firstRows : ℕ → List ℤ → List ℤ
 firstRows n xs = tab 64 (λ i. cond (ltb (i / 8) n) (getD xs i (pos 0)) (pos 0))
 
+-- a list with d in the places ks, which a reduced size does not read
+unfoldable pub without : {A : Type 0} → A → List ℕ → List A → List A
+without d ks xs = tab (length xs) (λ k. cond (listed ks k) d (getD xs k d))
+
 -- "12-bit has no shortcut: shifts 12 and 17, one and two more for 4×4 and 2×2, scaled down at 64 bits, then `sample_12bit`"
 unfoldable pub block12bit : Size → List ℤ → List ℕ
 block12bit z xs = samples (pass w64 (z .matrix) (12 + z .extra)) (pass w64 (z .matrix) (17 + z .extra)) sample12bit (z .side) xs
 
 -- "Refusing calls", transforms: 1, an input block not of its 64 places; 3, an output of the wrong length, here not of n
-unfoldable pub status : ℕ → List ℤ → List ℕ → ℕ
-status n xs out = cond (eqb (length xs) 64) (cond (eqb (length out) n) 0 3) 1
-
--- what the output holds after the call: the result, or, where the call is refused, what it held before
-unfoldable pub after : ℕ → (List ℤ → List ℕ) → List ℤ → List ℕ → List ℕ
-after n result xs out = cond (eqb (length xs) 64) (cond (eqb (length out) n) (result xs) out) out
+abbrev pub inverseTests : ℕ → List ℤ → List ℕ → List Test
+inverseTests n xs out = 1 unless xs of 64 ∷ 3 unless out of n ∷ []

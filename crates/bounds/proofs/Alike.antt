@@ -9,7 +9,7 @@ use Rattle.lists.proofs.Tab.{getD-tab}
 use Rattle.forward.specs.Forward.{scaledSum}
 use Rattle.quantize.specs.Quantize.{coefficient}
 use Rattle.forward.specs.Canonical.{canonical, coefficients}
-use Rattle.energy.proofs.Energy.{energy-8bit}
+use Rattle.orthogonality.proofs.Energy.{energy-8bit}
 use Rattle.bounds.specs.Demand3.{Alike}
 
 -- coefficient n of a block

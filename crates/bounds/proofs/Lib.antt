@@ -1,5 +1,4 @@
 pub mod Alike
 pub mod Near
 pub mod Theorem
-pub mod Compared
-pub mod Returned
+pub mod Calls

@@ -16,12 +16,15 @@ use Rattle.forward.specs.Forward.{centred, centredBlock, scaledSum}
 use Rattle.forward.proofs.Folding.{sum-centred}
 use Rattle.forward.proofs.Scaled.{scaled-size}
 use Rattle.block.specs.Bound.{AtMost}
-use Rattle.stored_coefficients.specs.Dequantize.{product, dequantized}
-use Rattle.gram.proofs.Rounding.{coefficient-nearest}
-use Rattle.gram.proofs.Reconstruction.{centred-within, quantized-reconstruction}
+use Rattle.stored_blocks.specs.Dequantize.{product, dequantized}
+use Rattle.orthogonality.proofs.Rounding.{coefficient-nearest}
+use Rattle.orthogonality.proofs.Reconstruction.{centred-within, quantized-reconstruction}
 use Rattle.accuracy.specs.Sample.{exactNumber}
 use Rattle.accuracy.proofs.Sample.{comes-back}
-use Rattle.bounds.specs.Demand3.{products, decoded, weightedBasis, Near, Narrow}
+use Rattle.integers.specs.Fits16.{Fits16}
+use Rattle.lists.specs.Every.{Every}
+use Rattle.lists.proofs.Every.{every-place}
+use Rattle.bounds.specs.Demand3.{products, decoded, weightedBasis, Near}
 use Rattle.bounds.proofs.Alike.{coefficient-at}
 
 -- D within half a divisor of S / 2^32: at most 1024 + 127
@@ -48,8 +51,8 @@ module _ (quant a : List ℕ) (most : (i : ℕ) → getD quant i 0 ≤ 255) (bri
       subst (λ (z : ℤ). natAbs z ≤ 1151) (sym (product-is n h) ∙ getD-tab 64 _ (pos 0) n h)
       (nearest-size (pos (divisorOf (getD quant n 0)) *ℤ coefficient (scaledSum 128 a n) (getD quant n 0)) (scaledSum 128 a n) (divisorOf (getD quant n 0)) (coefficient-nearest (scaledSum 128 a n) (getD quant n 0)) (sum-size n h) (let l = most n in omega arith)))
 
-  pub narrow : Narrow (products a quant)
-  narrow n = small-fits w16 _ (omega (arith, products-small n))
+  pub products-fit : Every Fits16 (products a quant)
+  products-fit = every-place (pos 0) (products a quant) (λ n. small-fits w16 _ (omega (arith, products-small n)))
 
   pub near : Near quant a (decoded a quant)
   unfolding decoded weightedBasis exactNumber centred

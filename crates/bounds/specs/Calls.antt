@@ -1,26 +1,37 @@
--- What the call of two blocks answers.
-use mathlib.Core.Bool.{cond, false, _&&_}
-use mathlib.Core.List.{List}
+-- What the calls of demand 3 answer, made one after the other for two blocks and one table.
+use mathlib.Core.Bool.{false}
+use mathlib.Core.List.{List, [], _∷_}
+use mathlib.Core.Path.{_≡_}
 use Prim.Native.Nat.{ℕ}
 use lib.Dec.{eqb}
-use lib.ListN.{length}
 use lib.IntN.{ℤ}
+use Rattle.integers.specs.Fits16.{Fits16}
+use Rattle.lists.specs.Every.{Every}
+use Rattle.refusals.specs.Refusals.{Test, _unless_, status, written}
 use Rattle.forward.specs.Canonical.{coefficients}
-use Rattle.refusals.specs.Refusals.{written}
-use Rattle.stored_coefficients.specs.Stored.{sameBlocks}
-use Rattle.stored_coefficients.specs.declared.Answer.{Answer}
+use Rattle.stored_blocks.specs.Stored.{sameBlocks}
+use Rattle.stored_blocks.specs.declared.Answer.{Answer}
+use Rattle.bounds.specs.Demand3.{Alike, Near}
 
--- 1, a block not of 64 places; 2, a table not of 64; 3, an output not of 64
-unfoldable pub comparedStatus : List ℕ → List ℕ → List ℕ → List ℤ → List ℤ → ℕ
-comparedStatus a b quant outA outB =
-    cond (eqb (length a) 64 && eqb (length b) 64) (cond (eqb (length quant) 64) (cond (eqb (length outA) 64 && eqb (length outB) 64) 0 3) 2) 1
+-- by the lengths: 1, a block not of 64 places; 2, a table not of 64; 3, an output not of 64
+unfoldable pub roundTripTests : ℕ → ℕ → ℕ → ℕ → ℕ → ℕ → ℕ → ℕ → ℕ → List Test
+roundTripTests a b quant coefficientsA coefficientsB products samples productsI32 samplesI32 =
+    1 unless eqb a 64
+    ∷ 1 unless eqb b 64
+    ∷ 2 unless eqb quant 64
+    ∷ 3 unless eqb coefficientsA 64
+    ∷ 3 unless eqb coefficientsB 64
+    ∷ 3 unless eqb products 64
+    ∷ 3 unless eqb samples 64
+    ∷ 3 unless eqb productsI32 64
+    ∷ 3 unless eqb samplesI32 64
+    ∷ []
 
 -- whether the two blocks' coefficients are the same
-unfoldable pub comparedAnswer : List ℕ → List ℕ → List ℕ → List ℤ → List ℤ → Answer
-comparedAnswer a b quant outA outB =
-    record { status = comparedStatus a b quant outA outB; yes = written (comparedStatus a b quant outA outB) (sameBlocks (coefficients a quant) (coefficients b quant)) false }
+unfoldable pub comparedAnswer : ℕ → List ℕ → List ℕ → List ℕ → Answer
+comparedAnswer s a b quant = record { status = s; yes = written s (sameBlocks (coefficients a quant) (coefficients b quant)) false }
 
--- 1, a block not of 64 places; 2, a table not of 64; 3, an output not of 64
-unfoldable pub roundTripStatus : List ℕ → List ℕ → List ℤ → List ℤ → List ℕ → ℕ
-roundTripStatus block quant cs ps samples =
-    cond (eqb (length block) 64) (cond (eqb (length quant) 64) (cond (eqb (length cs) 64 && eqb (length ps) 64 && eqb (length samples) 64) 0 3) 2) 1
+-- "Both halves together are one claim, about what the calls write": the coefficients ca and cb of blocks a and b, and, from ca, the products
+-- ps and qs and the samples cs and ds at the two input widths of the inverse
+abbrev pub Claimed : List ℕ → List ℕ → List ℕ → List ℤ → List ℤ → List ℤ → List ℕ → List ℤ → List ℕ → Type 0
+Claimed quant a b ca cb ps cs qs ds = (ca ≡ cb → Alike quant a b) × (Every Fits16 ps × Near quant a cs) × (Every Fits16 qs × Near quant a ds)

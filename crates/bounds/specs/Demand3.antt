@@ -4,16 +4,16 @@ use mathlib.Core.Path.{_≡_}
 use Prim.Native.Nat.{ℕ, _+_, _*_, _^_, _≤_, _<_}
 use lib.ListN.{length, getD}
 use lib.IntN.{ℤ, pos, natAbs, _-ℤ_}
-use mir.Syntax.{w16}
-use mir.Val.{SFits}
+use Rattle.integers.specs.Fits16.{Fits16}
+use Rattle.lists.specs.Every.{Every}
 use Rattle.basis.specs.Basis.{basis}
 use Rattle.forward.specs.Sum.{total}
 use Rattle.quantize.specs.Quantize.{divisorOf}
 use Rattle.forward.specs.Canonical.{coefficients}
-use Rattle.stored_coefficients.specs.Dequantize.{dequantized}
+use Rattle.stored_blocks.specs.Dequantize.{dequantized}
 use Rattle.passes.specs.Passes.{eight}
 use Rattle.block.specs.Block.{block}
-use Rattle.energy.specs.Difference.{squaredDifferences, squaredDivisors}
+use Rattle.orthogonality.specs.Difference.{squaredDifferences, squaredDivisors}
 
 -- "An 8-bit block is any 64 samples 0..255, a table any 64 quantizers 0..255"
 pub record Bytes (l : List ℕ) : Type 0 where
@@ -41,12 +41,8 @@ abbrev pub Near : List ℕ → List ℕ → List ℕ → Type 0
 Near quant a c =
     (x y : ℕ) → x < 8 → y < 8 → 2 ^ 33 * natAbs (pos (getD a (8 * y + x) 0) -ℤ pos (getD c (8 * y + x) 0)) ≤ 2 ^ 34 + weightedBasis quant x y
 
--- "The products fit 16 bits"
-abbrev pub Narrow : List ℤ → Type 0
-Narrow ps = (n : ℕ) → SFits w16 (getD ps n (pos 0))
-
--- "Both halves together are one claim"
+-- "The products fit 16 bits" (`Every Fits16`). "Both halves together are one claim"
 abbrev pub Demand3 : List ℕ → Type 0
 Demand3 quant =
     ((a b : List ℕ) → Bytes a → Bytes b → coefficients a quant ≡ coefficients b quant → Alike quant a b)
-    × ((a : List ℕ) → Bytes a → Narrow (products a quant) × Near quant a (decoded a quant))
+    × ((a : List ℕ) → Bytes a → Every Fits16 (products a quant) × Near quant a (decoded a quant))

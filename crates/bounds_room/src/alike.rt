@@ -5,22 +5,37 @@ use crate::found::FIRST;
 use crate::found::SECOND;
 use crate::found::TABLE;
 use crate::print::item;
+use round_trip::round_trip;
 
 fn squared_differences(a: &[u8; 64], b: &[u8; 64]) -> u64 {
     let mut total = 0;
     let mut i = 0;
     while i < 64 {
-        let size = apart(a[i], b[i]);
-        total = plus_product(total, size, size);
+        let difference = apart(a[i], b[i]);
+        total = plus_product(total, difference, difference);
         i += 1;
     }
     total
 }
 
 fn same_coefficients(a: &[u8; 64], b: &[u8; 64], quant: &[u8; 64]) -> bool {
-    let mut out_a = [0i16; 64];
-    let mut out_b = [0i16; 64];
-    let got = round_trip::code_and_compare(a, b, quant, &mut out_a, &mut out_b);
+    let mut coefficients_a = [0i16; 64];
+    let mut coefficients_b = [0i16; 64];
+    let mut products = [0i16; 64];
+    let mut samples = [0u8; 64];
+    let mut products_i32 = [0i32; 64];
+    let mut samples_i32 = [0u8; 64];
+    let got = round_trip(
+        a,
+        b,
+        quant,
+        &mut coefficients_a,
+        &mut coefficients_b,
+        &mut products,
+        &mut samples,
+        &mut products_i32,
+        &mut samples_i32,
+    );
     got.yes
 }
 

@@ -1,8 +1,8 @@
 // What both bounds are made of, in 64 bits.
 ghost use Prim.Native.Nat.{_≤_};
-use word_i64::wrapping_mul_u64;
+use wrapping::wrapping_mul_u64;
 
-// The size of the difference of two bytes.
+// The absolute value of the difference of two bytes.
 pub fn apart(a: u8, b: u8) -> u64
     ensures { λ r. ⌜ r ≤ 255 ⌝ }
 {

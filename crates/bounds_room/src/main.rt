@@ -9,7 +9,7 @@ mod print;
 use libc::STDOUT_FILENO;
 
 fn main() {
-    alike::report();
-    near::report();
+    crate::alike::report();
+    crate::near::report();
     io::write_all(STDOUT_FILENO, b"\n");
 }

@@ -5,7 +5,7 @@ ghost use lib.Dec.{T};
 ghost use lib.IntN.{pos};
 ghost use lib.Signed.{nonNeg};
 ghost use Rattle.clamping.specs.Clamping.{clampTo, centered, sampleU8, sampleCentered, sample12bit};
-use word::wrapping_add_i32;
+use wrapping::wrapping_add_i32;
 
 // The two sides of the clamp, one test each: over a row the compiler makes packed selects of them.
 fn at_least_0(x: i32) -> i32

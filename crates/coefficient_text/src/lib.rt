@@ -2,13 +2,16 @@
 //
 // Input of 75 bytes, the header and 64 samples, gives eight lines of eight numbers: the canonical coefficients for quantizer 1.
 // Any other input gives the line `refused 7`.
+mod decimal_lines;
+
 ghost use mathlib.Core.Path.{_≡_};
 ghost use Prim.Native.Nat.{_≤_};
 ghost use lib.ListN.{length};
-ghost use Rattle.coefficient_lines.specs.Text.{accepted};
-ghost use Rattle.coefficient_text.specs.Answer.{printed, after};
-use decimal_lines::LINES;
-use decimal_lines::put_numbers;
+ghost use Rattle.coefficient_text.specs.Text.{accepted};
+ghost use Rattle.coefficient_text.specs.Answer.{printed, placed};
+ghost use Rattle.refusals.specs.Refusals.{written};
+use crate::decimal_lines::LINES;
+use crate::decimal_lines::put_numbers;
 use fdct::fdct_quantize;
 
 // Places of an output.
@@ -32,7 +35,7 @@ fn is_accepted(input: &[u8]) -> bool
 // Input that is not accepted has a text too, the line `refused 7`: the number is the program's, and this call has a result.
 pub fn coefficient_text(input: &[u8], out: &mut [u8]) -> Printed
     ensures { λ r. ⌜ r ≡ printed (now (input .entry)) (now (out .entry)) ⌝ }
-    ensures { λ _. ⌜ now (out .exit) ≡ after (now (input .entry)) (now (out .entry)) ⌝ }
+    ensures { λ r. ⌜ now (out .exit) ≡ written (r .status) (placed (now (input .entry)) (now (out .entry))) (now (out .entry)) ⌝ }
     ensures { λ r. ⌜ r .count ≤ length (now (out .exit)) ⌝ }
 {
     if out.len() != TEXT {

@@ -1,20 +1,20 @@
 // The canonical forward transform with quantizing of 8-bit blocks (fdct.rs; document 01, leaves 3 and 4; T.81 A.3.3 and A.3.4).
 //
-// Samples are level-shifted by 128 (T.81 A.3.1); the transform itself, in crates `fdct_block` and `fdct_coefficient`, serves samples of
-// up to 12 bits and quantizers of 16.
+// Samples are level-shifted by 128 (T.81 A.3.1); the transform itself, in crate `fdct_block`, serves samples of up to 12 bits and
+// quantizers of 16.
 ghost use mathlib.Core.Path.{_≡_};
 ghost use Prim.Native.Nat.{ℕ, _≤_};
 ghost use lib.ListN.{length, getD};
-ghost use lib.IntN.{ℤ, pos, natAbs, _-ℤ_};
+ghost use lib.IntN.{pos, natAbs, _-ℤ_};
 ghost use Rattle.forward.specs.Forward.{centredBlock};
-ghost use Rattle.refusals.specs.Refusals.{status, written};
+ghost use Rattle.refusals.specs.Refusals.{blockTests, status, written};
 ghost use Rattle.forward.specs.Canonical.{coefficients, coefficientAnswer};
+use fdct_block::coefficient_at;
 use fdct_block::write_coefficients;
-use fdct_coefficient::coefficient_at;
 use forward::Coefficient;
 
 // The sample less 128.
-fn centred(sample: u8) -> i16
+fn level_shifted(sample: u8) -> i16
     ensures { λ r. ⌜ r ≡ pos sample -ℤ pos 128 ⌝ }
     ensures { λ r. ⌜ natAbs r ≤ 128 ⌝ }
 {
@@ -29,7 +29,7 @@ fn level_shift(block: &[u8]) -> [i16; 64]
     let mut samples = [0i16; 64];
     let mut i = 0;
     while i < 64 {
-        samples[i] = centred(block[i]);
+        samples[i] = level_shifted(block[i]);
         i += 1;
     }
     samples
@@ -55,7 +55,7 @@ fn widen(quant: &[u8]) -> [u16; 64]
 }
 
 pub fn fdct_quantize(block: &[u8], quant: &[u8], out: &mut [i16]) -> u32
-    ensures { λ r. ⌜ r ≡ status (now (block .entry)) (now (quant .entry)) (now (out .entry)) ⌝ }
+    ensures { λ r. ⌜ r ≡ status (blockTests (now (block .entry)) (now (quant .entry)) (now (out .entry))) ⌝ }
     ensures { λ r. ⌜ now (out .exit) ≡ written r (coefficients (now (block .entry)) (now (quant .entry))) (now (out .entry)) ⌝ }
 {
     if block.len() != 64 {

@@ -1,18 +1,27 @@
 // The canonical forward transform of samples less their centre, with quantizing (fdct.rs; document 01, leaf 4; T.81 A.3.3 and
 // A.3.4).
 //
-// A block of centred samples folds into four quadrants of 16 numbers, one for each parity of (u, v). One quadrant is held at a
-// time, and its 16 coefficients are written before the next. Samples of up to 12 bits fold to at most 2^13 and sum to at most 2^46
-// (`scaled-size` of crate forward), so nothing wraps.
+// A block of centred samples folds into four quadrants of 16 numbers, one for each parity of (u, v), and each coefficient is a
+// 16-term sum of one fold against the basis, the table of crate basis. One fold is held at a time, and its 16 coefficients are
+// written before the next.
+mod folds;
+mod parity;
+mod sums;
+
 ghost use mathlib.Core.Path.{_≡_};
-ghost use Prim.Native.Nat.{ℕ, _^_, _≤_};
+ghost use Prim.Native.Nat.{ℕ, _^_, _≤_, _<_};
 ghost use lib.ListN.{length, getD};
 ghost use lib.IntN.{pos, natAbs};
 ghost use Rattle.lists.specs.Tab.{tab};
-ghost use Rattle.forward.specs.Forward.{quantizedSum};
-use basis_halves::basis_high;
-use basis_halves::basis_low;
-use fdct_parity::write_parity;
+ghost use Rattle.quantize.specs.Quantize.{coefficient};
+ghost use Rattle.forward.specs.Forward.{centredSum, quantizedSum};
+use crate::folds::fold;
+use crate::parity::write_even_even;
+use crate::parity::write_even_odd;
+use crate::parity::write_odd_even;
+use crate::parity::write_odd_odd;
+use crate::sums::quantized;
+use basis::basis_table;
 
 // The 64 coefficients of a block in natural order.
 pub fn write_coefficients(samples: &[i16; 64], quant: &[u16; 64], out: &mut [i16])
@@ -20,10 +29,21 @@ pub fn write_coefficients(samples: &[i16; 64], quant: &[u16; 64], out: &mut [i16
     requires { ⌜ length (now out) ≡ 64 ⌝ }
     ensures { λ _. ⌜ now (out .exit) ≡ tab 64 (quantizedSum (now (samples .entry)) (now (quant .entry))) ⌝ }
 {
-    let high = basis_high();
-    let low = basis_low();
-    write_parity(samples, &high, &low, quant, out, 0, 0);
-    write_parity(samples, &high, &low, quant, out, 1, 0);
-    write_parity(samples, &high, &low, quant, out, 0, 1);
-    write_parity(samples, &high, &low, quant, out, 1, 1);
+    write_even_even(samples, quant, out);
+    write_odd_even(samples, quant, out);
+    write_even_odd(samples, quant, out);
+    write_odd_odd(samples, quant, out);
+}
+
+// Coefficient n of a block, by the one fold that it needs. Where n is not known in advance the table of 4 KB is first written to the
+// stack, which takes most of the time.
+pub fn coefficient_at(samples: &[i16; 64], quantizer: u16, n: usize) -> i16
+    requires { ⌜ ((i : ℕ) → natAbs (getD (now samples) i (pos 0)) ≤ 2 ^ 11) ⌝ }
+    requires { ⌜ n < 64 ⌝ }
+    ensures { λ r. ⌜ r ≡ coefficient (centredSum (now (samples .entry)) n) quantizer ⌝ }
+    ensures { λ r. ⌜ natAbs r < 2 ^ 15 ⌝ }
+{
+    let table = basis_table();
+    let f = fold(samples, n % 2 == 1, n / 8 % 2 == 1);
+    quantized(&f, &table, quantizer, n)
 }

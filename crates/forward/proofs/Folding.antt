@@ -10,7 +10,7 @@ use lib.ListN.{getD}
 use lib.IntN.{ℤ, pos, negℤ, _+ℤ_, _-ℤ_, _*ℤ_, +ℤ-assoc, +ℤ-comm}
 use Rattle.integers.proofs.Ring.{+ℤ-left-comm, +ℤ-*ℤ, negℤ-*ℤ, *ℤ-negℤ}
 use Rattle.lists.proofs.Tab.{getD-tab}
-use Rattle.basis.specs.Basis.{signed, entry, near, mirrors, basis}
+use Rattle.basis.specs.Basis.{signed, entry, reflected, mirrors, basis}
 use Rattle.basis.proofs.Mirror.{mirror-x, mirror-y}
 use Rattle.forward.specs.Sum.{sumTo}
 use Rattle.forward.specs.Forward.{centred, scaledSum, centredBlock, centredSum, odd, at, folded, foldOf, foldSum}
@@ -37,7 +37,7 @@ gather t c d b = ap (λ (z : ℤ). c *ℤ b +ℤ z) (signed-* t d b) ∙ sym (+�
 
 -- below 4 nothing is mirrored
 inside : (n x y : ℕ) → x < 4 → y < 4 → basis n x y ≡ entry n y x
-unfolding basis signed mirrors near
+unfolding basis signed mirrors reflected
 inside n x y h k = simp (le-ltb 3 x (omega arith), le-ltb 3 y (omega arith)) refl
 
 -- the sum of a block is that of its centred samples
@@ -84,7 +84,7 @@ module _ (samples : List ℤ) (n : ℕ) where
   abbrev G : ℕ → ℤ
   G k = folded samples u v (k % 4) (k / 4) *ℤ entry n (k / 4) (k % 4)
 
-  pub fold-terms : centredSum samples n ≡ sumTo 16 G
+  fold-terms : centredSum samples n ≡ sumTo 16 G
   unfolding centredSum
   fold-terms =
       let F : ℕ → ℤ = λ i. getD samples i (pos 0) *ℤ basis n (i % 8) (i / 8) in

@@ -151,7 +151,7 @@ unfolding total
 total-const zero c = omega arith
 total-const (suc m) c = omega (arith, total-const m c)
 
--- the sizes of a list, by its elements
+-- the absolute values of a list, by its elements
 weight-snoc : (u : List ℤ) (a : ℤ) → weight (u ++ (a ∷ [])) ≡ weight u + natAbs a
 unfolding weight
 weight-snoc [] a = omega arith

@@ -1,5 +1,5 @@
 -- The butterflies' steps, in the Rust's order, make up the rows of gains: at any width, one law for each size.
--- An operation is as a contract of the crate `word` states it; each value is carried with its linear form of p, and the forms of the
+-- An operation is as a contract of the crate `wrapping` states it; each value is carried with its linear form of p, and the forms of the
 -- outputs are the rows by computation.
 -- Assumes nothing.
 use mathlib.Core.Path.{_≡_}
@@ -18,14 +18,14 @@ module _ (w : Width) (p : List ℤ) where
   abbrev at : ℕ → ℤ
   at k = getD p k (pos 0)
 
-  -- entry k, which was read, is a number of the width
-  abbrev Given : ℕ → Type 0
-  Given k = mag (at k) < 2 ^ hbits w
+  -- every entry is a number of the width
+  abbrev Fit : Type 0
+  Fit = (k : ℕ) → mag (at k) < 2 ^ hbits w
 
   -- the 8-point transform
   pub eight-point :
       {z1′ z1 tmp2′ tmp2 tmp3′ tmp3 tmp0′ tmp0 tmp1′ tmp1 tmp10 tmp13 tmp11 tmp12 y1 y2 y3 y4 z5′ z5 u0 u1 u2 u3 x1 x2 x3′ x3 x4′ x4 t0′ t0 t1′ t1 t2′ t2 t3′ t3 r0 r1 r2 r3 r4 r5 r6 r7 : ℤ}
-      → Given 0 → Given 1 → Given 2 → Given 3 → Given 4 → Given 5 → Given 6 → Given 7
+      → Fit
       → z1′ ≡ add w (at 2) (at 6) → z1 ≡ mul w z1′ (pos 4433)
       → tmp2′ ≡ mul w (at 6) (neg 15137) → tmp2 ≡ add w z1 tmp2′
       → tmp3′ ≡ mul w (at 2) (pos 6270) → tmp3 ≡ add w z1 tmp3′
@@ -62,8 +62,8 @@ module _ (w : Width) (p : List ℤ) where
       → r7 ≡ sub w tmp10 t3
       → toZ w (ofZ w r0) ∷ toZ w (ofZ w r1) ∷ toZ w (ofZ w r2) ∷ toZ w (ofZ w r3) ∷ toZ w (ofZ w r4) ∷ toZ w (ofZ w r5) ∷ toZ w (ofZ w r6) ∷ toZ w (ofZ w r7) ∷ [] ≡ transform w gains p
   unfolding transform mirror mirrored upper gains
-  eight-point g0 g1 g2 g3 g4 g5 g6 g7 e1 e2 e3 e4 e5 e6 e7 e8 e9 e10 e11 e12 e13 e14 e15 e16 e17 e18 e19 e20 e21 e22 e23 e24 e25 e26 e27 e28 e29 e30 e31 e32 e33 e34 e35 e36 e37 e38 e39 e40 e41 e42 e43 e44 e45 e46 =
-      let p0 = lin-var 0 g0 in let p1 = lin-var 1 g1 in let p2 = lin-var 2 g2 in let p3 = lin-var 3 g3 in let p4 = lin-var 4 g4 in let p5 = lin-var 5 g5 in let p6 = lin-var 6 g6 in let p7 = lin-var 7 g7 in
+  eight-point f e1 e2 e3 e4 e5 e6 e7 e8 e9 e10 e11 e12 e13 e14 e15 e16 e17 e18 e19 e20 e21 e22 e23 e24 e25 e26 e27 e28 e29 e30 e31 e32 e33 e34 e35 e36 e37 e38 e39 e40 e41 e42 e43 e44 e45 e46 =
+      let p0 = lin-var 0 (f 0) in let p1 = lin-var 1 (f 1) in let p2 = lin-var 2 (f 2) in let p3 = lin-var 3 (f 3) in let p4 = lin-var 4 (f 4) in let p5 = lin-var 5 (f 5) in let p6 = lin-var 6 (f 6) in let p7 = lin-var 7 (f 7) in
       let z1 = lin-mul (pos 4433) (lin-add p2 p6 e1) e2 in
       let tmp2 = lin-add z1 (lin-mul (neg 15137) p6 e3) e4 in
       let tmp3 = lin-add z1 (lin-mul (pos 6270) p2 e5) e6 in
@@ -103,7 +103,7 @@ module _ (w : Width) (p : List ℤ) where
   -- the 4-point reduced transform
   pub four-point :
       {tmp0 tmp2′ tmp2′′ tmp2 tmp10 tmp12 b′ b′′ b′′′ b′′′′ b′′′′′ b′′′′′′ b a′ a′′ a′′′ a′′′′ a′′′′′ a′′′′′′ a r0 r1 r2 r3 : ℤ}
-      → Given 0 → Given 1 → Given 2 → Given 3 → Given 5 → Given 6 → Given 7
+      → Fit
       → tmp0 ≡ mul w (at 0) (pos 16384)
       → tmp2′ ≡ mul w (at 2) (pos 15137) → tmp2′′ ≡ mul w (at 6) (neg 6270) → tmp2 ≡ add w tmp2′ tmp2′′
       → tmp10 ≡ add w tmp0 tmp2
@@ -116,8 +116,8 @@ module _ (w : Width) (p : List ℤ) where
       → r3 ≡ sub w tmp10 a
       → toZ w (ofZ w r0) ∷ toZ w (ofZ w r1) ∷ toZ w (ofZ w r2) ∷ toZ w (ofZ w r3) ∷ [] ≡ transform w gains4 p
   unfolding transform mirror mirrored upper4 gains4
-  four-point g0 g1 g2 g3 g5 g6 g7 e1 e2 e3 e4 e5 e6 e7 e8 e9 e10 e11 e12 e13 e14 e15 e16 e17 e18 e19 e20 e21 e22 e23 e24 =
-      let p0 = lin-var 0 g0 in let p1 = lin-var 1 g1 in let p2 = lin-var 2 g2 in let p3 = lin-var 3 g3 in let p5 = lin-var 5 g5 in let p6 = lin-var 6 g6 in let p7 = lin-var 7 g7 in
+  four-point f e1 e2 e3 e4 e5 e6 e7 e8 e9 e10 e11 e12 e13 e14 e15 e16 e17 e18 e19 e20 e21 e22 e23 e24 =
+      let p0 = lin-var 0 (f 0) in let p1 = lin-var 1 (f 1) in let p2 = lin-var 2 (f 2) in let p3 = lin-var 3 (f 3) in let p5 = lin-var 5 (f 5) in let p6 = lin-var 6 (f 6) in let p7 = lin-var 7 (f 7) in
       let tmp0 = lin-mul (pos 16384) p0 e1 in
       let tmp2 = lin-add (lin-mul (pos 15137) p2 e2) (lin-mul (neg 6270) p6 e3) e4 in
       let tmp10 = lin-add tmp0 tmp2 e5 in
@@ -133,15 +133,15 @@ module _ (w : Width) (p : List ℤ) where
   -- the 2-point reduced transform
   pub two-point :
       {tmp10 tmp0′ tmp0′′ tmp0′′′ tmp0′′′′ tmp0′′′′′ tmp0′′′′′′ tmp0 r0 r1 : ℤ}
-      → Given 0 → Given 1 → Given 3 → Given 5 → Given 7
+      → Fit
       → tmp10 ≡ mul w (at 0) (pos 32768)
       → tmp0′ ≡ mul w (at 7) (neg 5906) → tmp0′′ ≡ mul w (at 5) (pos 6967) → tmp0′′′ ≡ add w tmp0′ tmp0′′ → tmp0′′′′ ≡ mul w (at 3) (neg 10426) → tmp0′′′′′ ≡ add w tmp0′′′ tmp0′′′′ → tmp0′′′′′′ ≡ mul w (at 1) (pos 29692) → tmp0 ≡ add w tmp0′′′′′ tmp0′′′′′′
       → r0 ≡ add w tmp10 tmp0
       → r1 ≡ sub w tmp10 tmp0
       → toZ w (ofZ w r0) ∷ toZ w (ofZ w r1) ∷ [] ≡ transform w gains2 p
   unfolding transform mirror mirrored upper2 gains2
-  two-point g0 g1 g3 g5 g7 e1 e2 e3 e4 e5 e6 e7 e8 e9 e10 =
-      let p0 = lin-var 0 g0 in let p1 = lin-var 1 g1 in let p3 = lin-var 3 g3 in let p5 = lin-var 5 g5 in let p7 = lin-var 7 g7 in
+  two-point f e1 e2 e3 e4 e5 e6 e7 e8 e9 e10 =
+      let p0 = lin-var 0 (f 0) in let p1 = lin-var 1 (f 1) in let p3 = lin-var 3 (f 3) in let p5 = lin-var 5 (f 5) in let p7 = lin-var 7 (f 7) in
       let tmp10 = lin-mul (pos 32768) p0 e1 in
       let tmp0 = lin-add (lin-add (lin-add (lin-mul (neg 5906) p7 e2) (lin-mul (pos 6967) p5 e3) e4) (lin-mul (neg 10426) p3 e5) e6) (lin-mul (pos 29692) p1 e7) e8 in
       let r0 = lin-read (lin-add tmp10 tmp0 e9) in

@@ -60,10 +60,10 @@ unfoldable pub maximum : List ℕ → ℕ
 maximum [] = 0
 maximum (n ∷ ns) = max n (maximum ns)
 
--- the largest size of a gain
+-- the largest absolute value of a gain
 unfoldable pub largestGain : List (List ℤ) → ℕ
 largestGain rows = maximum (map (λ (row : List ℤ). maximum (map natAbs row)) rows)
 
--- the largest sum of the sizes of one row's gains
+-- the largest sum of the absolute values of one row's gains
 unfoldable pub largestL1 : List (List ℤ) → ℕ
 largestL1 rows = maximum (map weight rows)

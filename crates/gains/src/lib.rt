@@ -10,6 +10,7 @@ ghost use Rattle.gains.specs.Bounds.{gainBounds};
 
 // Number of fractional bits in the constants below.
 pub const CONST_BITS: usize = 13;
+
 // Fraction bits that the 8-bit transform keeps between its passes.
 pub const PASS1_BITS: usize = 2;
 
@@ -89,7 +90,7 @@ pub struct GainBounds {
     pub max_l1: i32,
 }
 
-// The largest size of a gain, and the largest sum of one row's sizes.
+// The largest absolute value of a gain, and the largest sum of the absolute values of one row.
 pub fn islow_gain_bounds() -> GainBounds
     ensures { λ r. ⌜ r ≡ gainBounds ⌝ }
 {

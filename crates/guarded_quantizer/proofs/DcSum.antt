@@ -9,7 +9,7 @@ use lib.Dec.{T, eqb, eqb→eq}
 use lib.ListN.{getD}
 use lib.IntN.{ℤ, pos, _-ℤ_, _*ℤ_}
 use Rattle.lists.proofs.Below.{below-at}
-use Rattle.basis.specs.Basis.{signed, entry, near, mirrors, basis}
+use Rattle.basis.specs.Basis.{signed, entry, reflected, mirrors, basis}
 use Rattle.forward.specs.Sum.{sumTo}
 use Rattle.forward.specs.Forward.{centred, scaledSum}
 use Rattle.forward.proofs.Sum.{sum-ext, sum-scale}
@@ -17,7 +17,7 @@ use Rattle.guarded_quantizer.specs.Constant.{constant}
 
 -- the basis of n = 0 is 2^29 at each of the 64 places
 basis-sum : sumTo 64 (λ i. basis 0 (i % 8) (i / 8)) ≡ pos (2 ^ 35)
-unfolding sumTo signed entry near mirrors basis
+unfolding sumTo signed entry reflected mirrors basis
 basis-sum = refl
 
 pub constant-sum : (block : List ℕ) → constant block ≡ true → scaledSum 128 block 0 ≡ (pos (getD block 0 0) -ℤ pos 128) *ℤ pos (2 ^ 35)

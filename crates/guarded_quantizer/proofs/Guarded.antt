@@ -10,9 +10,9 @@ use lib.Ieee.{Float, nan, binary64, mul}
 use Rattle.lists.proofs.Tab.{getD-tab}
 use Rattle.quantize.specs.Quantize.{coefficient}
 use Rattle.forward.specs.Forward.{scaledSum}
-use Rattle.binary64.specs.Binary64.{nearHalf, roundedToI16}
+use Rattle.guarded_quantizer.specs.Binary64.{nearHalf, roundedToI16}
 use Rattle.forward.specs.Canonical.{canonical}
-use Rattle.guarded_floats.specs.Values.{fdctValue, fdctValues}
+use Rattle.guarded_quantizer.specs.Values.{fdctValue, fdctValues}
 use Rattle.guarded_quantizer.specs.Guarded.{scaledValue, guarded}
 
 -- the coefficient that `coefficient_of` gives at place n of the transform's values

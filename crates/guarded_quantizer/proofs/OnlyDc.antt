@@ -13,11 +13,11 @@ use Rattle.lists.specs.Tab.{tab}
 use Rattle.lists.proofs.Tab.{tab-ext}
 use Rattle.zigzag.specs.Zigzag.{zigzagOrder}
 use Rattle.forward.specs.Canonical.{canonical}
-use Rattle.quantized_record.specs.Bitmap.{bitmapOf}
-use Rattle.quantized_record.specs.Record.{acPlaces, recordOf}
-use Rattle.quantized_record.proofs.Bitmap.{bitmap-zeros}
-use Rattle.quantized_record.proofs.Order.{ac-index}
-use Rattle.quantized_record.proofs.Record.{made, acAt, whole}
+use Rattle.guarded_quantizer.specs.Bitmap.{bitmapOf}
+use Rattle.guarded_quantizer.specs.Record.{acPlaces, recordOf}
+use Rattle.guarded_quantizer.proofs.Bitmap.{bitmap-zeros}
+use Rattle.guarded_quantizer.proofs.Order.{ac-index}
+use Rattle.guarded_quantizer.proofs.Record.{made, acAt, whole}
 use Rattle.guarded_quantizer.specs.Constant.{onlyDc}
 
 module _ (block quant : List ℕ) where

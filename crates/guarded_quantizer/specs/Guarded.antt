@@ -6,8 +6,8 @@ use lib.ListN.{getD}
 use lib.IntN.{ℤ}
 use lib.Ieee.{Float, nan, binary64, mul}
 use Rattle.forward.specs.Canonical.{canonical}
-use Rattle.guarded_floats.specs.Values.{fdctValue}
-use Rattle.binary64.specs.Binary64.{nearHalf, roundedToI16}
+use Rattle.guarded_quantizer.specs.Values.{fdctValue}
+use Rattle.guarded_quantizer.specs.Binary64.{nearHalf, roundedToI16}
 
 -- "value × reciprocal"
 unfoldable pub scaledValue : List ℕ → List Float → ℕ → Float

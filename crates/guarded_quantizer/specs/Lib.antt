@@ -1,4 +1,10 @@
+pub mod Literals
+pub mod Transform
+pub mod Values
+pub mod Divisors
+pub mod Binary64
+pub mod Bitmap
+pub mod Record
 pub mod Guarded
 pub mod Constant
 pub mod Answer
-pub mod Into

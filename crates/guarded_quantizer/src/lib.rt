@@ -1,6 +1,26 @@
-// What the guarded quantizer answers (transform.rs, `fdct_quantize`; document 01, "The guarded quantizer"), its definitions and laws, and no
-// code: that is in guarded, constant_block, transform and transform_into.
-use quantized_record::QuantizedBlock;
+// Definitions and laws of the guarded quantizer, and no code (transform.rs; document 01, "The guarded quantizer"): the transform's values
+// in f64 and the divisors (code: fdct_f64), the guard and the rounding of an f64, the record of DC, AC places and bitmap, and what the
+// entry answers (code: transform). The structs that they speak of are declared here.
+
+// What the guarded quantizer multiplies by instead of dividing.
+pub struct QuantizationDivisors {
+    pub reciprocals: [f64; 64],
+}
+
+// What `quantization_divisors` answers: status 0 and the divisors, or a refusal's number and 64 zeros.
+pub struct MadeDivisors {
+    pub status: u32,
+    pub divisors: QuantizationDivisors,
+}
+
+// The record of a quantized block (transform.rs, `QuantizedBlock`).
+pub struct QuantizedBlock {
+    pub dc: i16,
+    // In zigzag order; place 0 is 0.
+    pub ac_coefficients: [i16; 64],
+    // Bit 64 - z is set where place z is not 0.
+    pub nonzero_ac: u64,
+}
 
 // What `fdct_quantize` answers: status 0 and the record, or a refusal's number and zeros.
 pub struct Quantized {

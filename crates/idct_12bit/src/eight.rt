@@ -1,5 +1,5 @@
-// The rows of the 8×8 12-bit block (idct.rs, `islow_block_12bit`; document 01, "The inverse blocks"), at 64 bits. Its columns fit 32
-// bits and are those of the crate `columns`.
+// The rows of the 12-bit 8×8 block (idct.rs, `islow_block_12bit`; document 01, "The inverse blocks"), at 64 bits, where nothing wraps
+// (`exact-eight` of block/proofs/Exact.antt). Its columns fit 32 bits: they are those of `idct_8x8::islow_columns`.
 ghost use mathlib.Core.Path.{_≡_};
 ghost use Prim.Native.Nat.{_≤_};
 ghost use lib.ListN.{length};
@@ -8,12 +8,12 @@ ghost use Rattle.gains.specs.Gains.{gains};
 ghost use Rattle.clamping.specs.Clamping.{sample12bit};
 ghost use Rattle.passes.specs.Passes.{pass};
 ghost use Rattle.block.specs.Block.{rowSamples};
+use crate::passes_12bit::PASS2_SHIFT_12;
+use crate::passes_12bit::descale_each;
+use crate::passes_12bit::widen_8;
+use block_access::load_row;
 use block_access::put_row_12bit;
-use columns::load_row;
 use islow_i64::islow_1d_i64;
-use passes_12bit::PASS2_SHIFT_12;
-use passes_12bit::descale_each;
-use passes_12bit::widen_8;
 
 fn pass_8(p: [i64; 8], shift: u32) -> [i64; 8]
     requires { ⌜ (1 ≤ shift) × (shift ≤ 63) ⌝ }

@@ -1,31 +1,34 @@
-// The columns and rows of the 4×4 12-bit block (idct.rs, `islow_block_12bit_4x4`; document 01, "The inverse blocks"). The
-// columns go at 32 bits, the rows at 64.
+// The columns and rows of the 12-bit 4×4 block (idct.rs, `islow_block_12bit_4x4`; document 01, "The inverse blocks").
+//
+// The columns go at 32 bits, the rows at 64; nothing wraps (`four-apart` of proofs/Apart.antt, `exact-four` of block/proofs/Exact.antt).
+// Row 4 is not read. Column 4 is loaded with the others, so that the compiler passes over several columns at once; what comes of it the
+// row pass ignores.
 ghost use mathlib.Core.Path.{_≡_};
-ghost use Prim.Native.Nat.{_^_};
 ghost use lib.ListN.{length};
 ghost use mir.Syntax.{w64};
+ghost use Rattle.integers.specs.Fits16.{Fits16};
+ghost use Rattle.lists.specs.Every.{Every};
 ghost use Rattle.lists.specs.Tab.{tab};
 ghost use Rattle.gains.specs.Gains.{gains4};
 ghost use Rattle.clamping.specs.Clamping.{sample12bit};
 ghost use Rattle.passes.specs.Passes.{pass};
 ghost use Rattle.block.specs.Block.{columns, rowOf, rowSamples};
-ghost use Rattle.block.specs.Bound.{AtMost};
-use block_access::load_column;
+use crate::passes_12bit::PASS1_SHIFT_12_4X4;
+use crate::passes_12bit::PASS2_SHIFT_12_4X4;
+use crate::passes_12bit::add_each;
+use crate::passes_12bit::descale_each;
+use crate::passes_12bit::widen_8;
+use block_access::load_column_4;
+use block_access::load_row_4;
 use block_access::put_row_12bit;
-use idct_4x4_columns::load_row_4;
-use idct_4x4_columns::pass_4;
-use islow_reduced_i64::islow_1d_4_i64;
-use passes_12bit::PASS1_SHIFT_12_4X4;
-use passes_12bit::PASS2_SHIFT_12_4X4;
-use passes_12bit::add_each;
-use passes_12bit::descale_each;
-use passes_12bit::widen_8;
-use word::wrapping_add_i32;
+use idct_reduced::pass_4;
+use islow_i64::reduced::islow_1d_4_i64;
+use wrapping::wrapping_add_i32;
 
 // A column of 16-bit numbers, at 32 bits. 16384·p0 is a multiple of 2^13: scaled down it is 2·p0, exactly, and what the other entries
 // make fits 32 bits.
 fn column_4(p: [i32; 8]) -> [i32; 4]
-    requires { ⌜ AtMost (2 ^ 15) p ⌝ }
+    requires { ⌜ Every Fits16 p ⌝ }
     ensures { λ r. ⌜ r ≡ pass w64 gains4 13 p ⌝ }
 {
     let mut rest = p;
@@ -42,7 +45,7 @@ pub fn columns_4(input: &[i16]) -> [[i32; 4]; 8]
     let mut w = [[0i32; 4]; 8];
     let mut u = 0;
     while u < 8 {
-        w[u] = column_4(load_column(input, 8, u));
+        w[u] = column_4(load_column_4(input, u));
         u += 1;
     }
     w

@@ -1,22 +1,27 @@
-// The columns and rows of the 2×2 12-bit block (idct.rs, `islow_block_12bit_2x2`; document 01, "The inverse blocks"). Both go at
-// 64 bits: with these gains the columns do not fit 32. What the rows give does.
+// The columns and rows of the 12-bit 2×2 block (idct.rs, `islow_block_12bit_2x2`; document 01, "The inverse blocks").
+//
+// Only rows and columns 0, 1, 3, 5, 7 are read, 25 numbers: the rows do not read what would come of the other columns, and zeros stand in
+// their places. Both passes go at 64 bits, where nothing wraps (`exact-two` of block/proofs/Exact.antt): with these gains the columns do
+// not fit 32. What the rows give does (`row-small-two` of proofs/Small.antt).
 ghost use mathlib.Core.Path.{_≡_};
-ghost use mathlib.Core.List.{[]};
-ghost use Prim.Native.Nat.{ℕ, _≤_, _<_, _^_};
-ghost use lib.ListN.{length, getD};
+ghost use Prim.Native.Nat.{_≤_, _<_, _^_};
+ghost use lib.ListN.{length, replicate};
+ghost use lib.IntN.{pos};
 ghost use mir.Syntax.{w64};
-ghost use Rattle.gains.specs.Gains.{gains2};
+ghost use Rattle.integers.specs.Fits16.{Fits16};
+ghost use Rattle.lists.specs.Every.{Every};
+ghost use Rattle.gains.specs.Gains.{gains2, skipped2};
 ghost use Rattle.clamping.specs.Clamping.{sample12bit};
 ghost use Rattle.passes.specs.Passes.{pass};
-ghost use Rattle.block.specs.Block.{columns, rowOf, rowSamples};
+ghost use Rattle.block.specs.Block.{columns, rowOf, rowSamples, without};
 ghost use Rattle.block.specs.Bound.{AtMost};
-use block_access::load_column;
-use islow_reduced_i64::islow_1d_2_i64;
-use passes_12bit::PASS1_SHIFT_12_2X2;
-use passes_12bit::PASS2_SHIFT_12_2X2;
-use passes_12bit::descale_each;
-use passes_12bit::widen_8;
-use samples_12bit::put_row_small;
+use crate::passes_12bit::PASS1_SHIFT_12_2X2;
+use crate::passes_12bit::PASS2_SHIFT_12_2X2;
+use crate::passes_12bit::descale_each;
+use crate::passes_12bit::widen_8;
+use crate::samples_12bit::put_row_small;
+use block_access::load_column_2;
+use islow_i64::reduced::islow_1d_2_i64;
 
 fn pass_2(p: [i64; 8], shift: u32) -> [i64; 2]
     requires { ⌜ (1 ≤ shift) × (shift ≤ 63) ⌝ }
@@ -27,18 +32,31 @@ fn pass_2(p: [i64; 8], shift: u32) -> [i64; 2]
     q
 }
 
+// A column of 16-bit numbers. What it gives has at most 33 bits.
+fn column_2(p: [i32; 8]) -> [i64; 2]
+    requires { ⌜ Every Fits16 p ⌝ }
+    ensures { λ r. ⌜ r ≡ pass w64 gains2 14 p ⌝ }
+    ensures { λ r. ⌜ AtMost (2 ^ 32) r ⌝ }
+{
+    pass_2(widen_8(p), PASS1_SHIFT_12_2X2)
+}
+
+// The columns that the rows read, and zeros for the others.
 pub fn columns_2(input: &[i16]) -> [[i64; 2]; 8]
     requires { ⌜ length (now input) ≡ 64 ⌝ }
-    ensures { λ r. ⌜ r ≡ columns (pass w64 gains2 14) (now (input .entry)) ⌝ }
-    ensures { λ r. ⌜ ((u : ℕ) → AtMost (2 ^ 32) (getD r u [])) ⌝ }
+    ensures { λ r. ⌜ r ≡ without (replicate 2 (pos 0)) skipped2 (columns (pass w64 gains2 14) (now (input .entry))) ⌝ }
+    ensures { λ r. ⌜ Every (AtMost (2 ^ 32)) r ⌝ }
 {
-    let mut w = [[0i64; 2]; 8];
-    let mut u = 0;
-    while u < 8 {
-        w[u] = pass_2(widen_8(load_column(input, 8, u)), PASS1_SHIFT_12_2X2);
-        u += 1;
-    }
-    w
+    [
+        column_2(load_column_2(input, 0)),
+        column_2(load_column_2(input, 1)),
+        [0; 2],
+        column_2(load_column_2(input, 3)),
+        [0; 2],
+        column_2(load_column_2(input, 5)),
+        [0; 2],
+        column_2(load_column_2(input, 7)),
+    ]
 }
 
 // Row y of what is given by its columns.
@@ -57,7 +75,7 @@ fn load_row_2(w: &[[i64; 2]; 8], y: usize) -> [i64; 8]
 
 pub fn rows_2(w: &[[i64; 2]; 8], output: &mut [u16])
     requires { ⌜ length (now output) ≡ 4 ⌝ }
-    requires { ⌜ ((u : ℕ) → AtMost (2 ^ 32) (getD (now w) u [])) ⌝ }
+    requires { ⌜ Every (AtMost (2 ^ 32)) (now w) ⌝ }
     ensures { λ _. ⌜ now (output .exit) ≡ rowSamples (pass w64 gains2 19) sample12bit 2 (now (w .entry)) ⌝ }
 {
     let mut y = 0;

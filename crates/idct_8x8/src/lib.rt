@@ -1,49 +1,124 @@
-// The rows of the 8-bit 8×8 block (idct.rs, `islow_block`; document 01, "The inverse blocks").
+// The 8-bit 8×8 ISLOW inverse blocks (idct.rs, `islow_block` and `islow_block_top_half`; document 01, "The inverse blocks"), of 16- and of
+// 32-bit coefficients; and the column pass of 16-bit ones, which the 12-bit 8×8 block shares.
 //
-// Where all that the columns gave fits 16 bits, as it does for nearly every block of a JPEG file, the pass is that of `narrow_rows`.
+// Columns first, then rows. The column pass keeps PASS1_BITS fraction bits, the row pass takes them and the 1/8 normalisation off, and
+// `sample_u8` shifts the level and clamps. Arithmetic wraps modulo 2^32, as document 01 has it; of 16-bit coefficients the column pass
+// never wraps (`column-eight`, `columns-narrow` of block/proofs), so it goes by direct products and has no zero shortcut.
+//
+// Each entry answers its refusal number, 1 for an input not of 64 places, then 3 for an output not of 64, and then leaves the output as it
+// was; or 0, and the output holds the samples.
+mod column_pass;
+mod fit_16;
+mod row_pass;
+
 ghost use mathlib.Core.Path.{_≡_};
+ghost use Prim.Native.Nat.{ℕ, _≤_, _<_};
 ghost use lib.ListN.{length};
-ghost use Rattle.lists.specs.Tab.{tab};
-ghost use Rattle.clamping.specs.Clamping.{sampleU8};
-ghost use Rattle.passes.specs.Passes.{eight, rowPass};
-ghost use Rattle.block.specs.Block.{rowOf, rowSamples};
-use block_access::put_row;
-use columns::load_row;
-use narrow_rows::columns_fit;
-use narrow_rows::pass_narrow;
-use zero_shortcut::islow_row;
+ghost use mir.Syntax.{w32};
+ghost use Rattle.integers.specs.Fits16.{Fits16};
+ghost use Rattle.lists.specs.Every.{Every};
+ghost use Rattle.gains.specs.Gains.{gains};
+ghost use Rattle.passes.specs.Passes.{pass, eight};
+ghost use Rattle.block.specs.Block.{columnOf, columns, block, firstRows, inverseTests};
+ghost use Rattle.refusals.specs.Refusals.{status, written};
+use crate::column_pass::columns_as_i16;
+use crate::column_pass::columns_i32;
+use crate::column_pass::columns_top_half_as_i16;
+use crate::column_pass::islow_columns_top_half;
+use crate::fit_16::all_fit;
+use crate::row_pass::rows;
+use block_access::load_column;
+use islow::direct::islow_1d_direct;
+use passes::PASS1_SHIFT;
+use passes::descale_8;
 
-fn pass_any(w: &[[i32; 8]; 8]) -> [[i32; 8]; 8]
-    ensures { λ r. ⌜ r ≡ tab 8 (λ y. rowPass eight (rowOf (now (w .entry)) y)) ⌝ }
+// The columns of a block of 16-bit numbers, each output scaled down by `shift` bits.
+pub fn islow_columns(input: &[i16], shift: u32) -> [[i32; 8]; 8]
+    requires { ⌜ length (now input) ≡ 64 ⌝ }
+    requires { ⌜ (1 ≤ shift) × (shift ≤ 31) ⌝ }
+    ensures { λ r. ⌜ r ≡ columns (pass w32 gains shift) (now (input .entry)) ⌝ }
+    ensures { λ _. ⌜ ((u : ℕ) → u < 8 → Every Fits16 (columnOf (now (input .entry)) u)) ⌝ }
 {
-    let mut r = [[0i32; 8]; 8];
-    let mut y = 0;
-    while y < 8 {
-        r[y] = islow_row(load_row(w, y));
-        y += 1;
+    let mut w = [[0i32; 8]; 8];
+    let mut u = 0;
+    while u < 8 {
+        w[u] = descale_8(islow_1d_direct(load_column(input, 8, u)), shift);
+        u += 1;
     }
-    r
+    w
 }
 
-fn pass(w: &[[i32; 8]; 8]) -> [[i32; 8]; 8]
-    ensures { λ r. ⌜ r ≡ tab 8 (λ y. rowPass eight (rowOf (now (w .entry)) y)) ⌝ }
+// The 8×8 block.
+pub fn islow_block(input: &[i16], output: &mut [u8]) -> u32
+    ensures { λ r. ⌜ r ≡ status (inverseTests 64 (now (input .entry)) (now (output .entry))) ⌝ }
+    ensures { λ r. ⌜ now (output .exit) ≡ written r (block eight (now (input .entry))) (now (output .entry)) ⌝ }
 {
-    if columns_fit(w) {
-        return pass_narrow(w);
+    if input.len() != 64 {
+        return 1; // an input block not of its 64 places
     }
-    pass_any(w)
+    if output.len() != 64 {
+        return 3; // an output of the wrong length
+    }
+    let w = islow_columns(input, PASS1_SHIFT);
+    rows(&w, output);
+    0 // the output holds the samples
 }
 
-// The samples of what is given by its columns. Every row is passed over before one is stored: the compiler cannot know that the
-// output is apart from what is read, and so passes over several rows at once.
-pub fn rows(w: &[[i32; 8]; 8], output: &mut [u8])
-    requires { ⌜ length (now output) ≡ 64 ⌝ }
-    ensures { λ _. ⌜ now (output .exit) ≡ rowSamples (rowPass eight) sampleU8 8 (now (w .entry)) ⌝ }
+// The block whose rows 4..7 are zero, or count as zero: they are not read.
+pub fn islow_block_top_half(input: &[i16], output: &mut [u8]) -> u32
+    ensures { λ r. ⌜ r ≡ status (inverseTests 64 (now (input .entry)) (now (output .entry))) ⌝ }
+    ensures { λ r. ⌜ now (output .exit) ≡ written r (block eight (firstRows 4 (now (input .entry)))) (now (output .entry)) ⌝ }
 {
-    let r = pass(w);
-    let mut y = 0;
-    while y < 8 {
-        put_row(output, y * 8, &r[y]);
-        y += 1;
+    if input.len() != 64 {
+        return 1; // rows 4..7 too must be there, though they are not read
     }
+    if output.len() != 64 {
+        return 3; // all 64 samples are written
+    }
+    let w = islow_columns_top_half(input);
+    rows(&w, output);
+    0
+}
+
+// The 8×8 block of 32-bit numbers.
+pub fn islow_block_i32(input: &[i32], output: &mut [u8]) -> u32
+    ensures { λ r. ⌜ r ≡ status (inverseTests 64 (now (input .entry)) (now (output .entry))) ⌝ }
+    ensures { λ r. ⌜ now (output .exit) ≡ written r (block eight (now (input .entry))) (now (output .entry)) ⌝ }
+{
+    if input.len() != 64 {
+        return 1;
+    }
+    if output.len() != 64 {
+        return 3;
+    }
+    if all_fit(input, 64) {
+        let mut w = [[0i32; 8]; 8];
+        columns_as_i16(input, &mut w);
+        rows(&w, output);
+        return 0;
+    }
+    let w = columns_i32(input, 8);
+    rows(&w, output);
+    0
+}
+
+// The block whose rows 4..7 are zero, or count as zero: they are not read.
+pub fn islow_block_top_half_i32(input: &[i32], output: &mut [u8]) -> u32
+    ensures { λ r. ⌜ r ≡ status (inverseTests 64 (now (input .entry)) (now (output .entry))) ⌝ }
+    ensures { λ r. ⌜ now (output .exit) ≡ written r (block eight (firstRows 4 (now (input .entry)))) (now (output .entry)) ⌝ }
+{
+    if input.len() != 64 {
+        return 1;
+    }
+    if output.len() != 64 {
+        return 3;
+    }
+    if all_fit(input, 32) {
+        let w = columns_top_half_as_i16(input);
+        rows(&w, output);
+        return 0;
+    }
+    let w = columns_i32(input, 4);
+    rows(&w, output);
+    0
 }

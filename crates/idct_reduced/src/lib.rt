@@ -1,4 +1,68 @@
-// The passes of the reduced 8-bit ISLOW inverse blocks (idct.rs; document 01, "The inverse blocks"): the rows of 4×4, with their samples,
-// and the columns and rows of 2×2. The columns of 4×4 are in crate idct_4x4_columns.
-pub mod four;
-pub mod two;
+// The reduced 8-bit ISLOW inverse blocks, 4×4 and 2×2, of 16-bit coefficients (idct.rs, `islow_block_4x4` and `islow_block_2x2`; document
+// 01, "The inverse blocks"); and the 4-point pass at 32 bits, which the 12-bit 4×4 block shares.
+//
+// Columns first, then rows, as at 8×8, with the 4- and 2-point transforms; these scale by 2 and 4 more than the 8-point one, and so the
+// shifts are 1 and 2 more. Arithmetic wraps modulo 2^32, as document 01 has it; of 16-bit numbers a column's zero shortcut is the full
+// pass (`column-four`, `column-two` of block/proofs/Column.antt). Entries that a size ignores are not read (`load_column_4`,
+// `load_column_2`), and play no part (`four-reads`, `two-reads` of block/proofs/Unread.antt).
+//
+// Each entry answers its refusal number, 1 for an input not of 64 places, then 3 for an output of the wrong length, and then leaves the
+// output as it was; or 0, and the output holds the samples.
+mod four;
+mod two;
+
+ghost use mathlib.Core.Path.{_≡_};
+ghost use Prim.Native.Nat.{_≤_};
+ghost use mir.Syntax.{w32};
+ghost use Rattle.gains.specs.Gains.{gains4};
+ghost use Rattle.passes.specs.Passes.{pass, four, two};
+ghost use Rattle.block.specs.Block.{block, inverseTests};
+ghost use Rattle.refusals.specs.Refusals.{status, written};
+use islow::reduced::islow_1d_4;
+use scaling::descale_i32;
+
+// The 4-point transform, each output scaled down.
+pub fn pass_4(p: [i32; 8], shift: u32) -> [i32; 4]
+    requires { ⌜ (1 ≤ shift) × (shift ≤ 31) ⌝ }
+    ensures { λ r. ⌜ r ≡ pass w32 gains4 shift p ⌝ }
+{
+    let v = islow_1d_4(p);
+    [
+        descale_i32(v[0], shift),
+        descale_i32(v[1], shift),
+        descale_i32(v[2], shift),
+        descale_i32(v[3], shift),
+    ]
+}
+
+// The 4×4 block.
+pub fn islow_block_4x4(input: &[i16], output: &mut [u8]) -> u32
+    ensures { λ r. ⌜ r ≡ status (inverseTests 16 (now (input .entry)) (now (output .entry))) ⌝ }
+    ensures { λ r. ⌜ now (output .exit) ≡ written r (block four (now (input .entry))) (now (output .entry)) ⌝ }
+{
+    if input.len() != 64 {
+        return 1;
+    }
+    if output.len() != 16 {
+        return 3;
+    }
+    let w = crate::four::columns_4(input);
+    crate::four::rows_4(&w, output);
+    0
+}
+
+// The 2×2 block.
+pub fn islow_block_2x2(input: &[i16], output: &mut [u8]) -> u32
+    ensures { λ r. ⌜ r ≡ status (inverseTests 4 (now (input .entry)) (now (output .entry))) ⌝ }
+    ensures { λ r. ⌜ now (output .exit) ≡ written r (block two (now (input .entry))) (now (output .entry)) ⌝ }
+{
+    if input.len() != 64 {
+        return 1;
+    }
+    if output.len() != 4 {
+        return 3;
+    }
+    let w = crate::two::columns_2(input);
+    crate::two::rows_2(&w, output);
+    0
+}

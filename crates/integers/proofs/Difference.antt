@@ -1,5 +1,5 @@
 -- The integers as differences of naturals: `dif a b` is a - b. An equation or an order of ℤ becomes one of ℕ, which `omega` reads:
--- an identity is `by-dif _ λ a b. .. simp differences (dif-eq _ _ _ _ (omega arith))`, an order of sizes ends in `simp differences (omega arith)`.
+-- an identity is `by-dif _ λ a b. .. simp differences (dif-eq _ _ _ _ (omega arith))`, an order of absolute values ends in `simp differences (omega arith)`.
 -- Assumes nothing.
 use mathlib.Core.Path.{_≡_, refl, sym, _∙_, ap, subst}
 use mathlib.Core.Bool.{Bool, true, false, not, cond}

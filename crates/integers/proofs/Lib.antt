@@ -10,3 +10,5 @@ pub mod Bound
 pub mod Agree
 pub mod ZeroTest
 pub mod Equal
+pub mod Fits16
+pub mod Entries

@@ -75,7 +75,7 @@ dot-unit (suc k) (y ∷ x) = (λ i. zero-*ℤ y i +ℤ dot-unit k x i) ∙ +ℤ-
 pub record Lin (w : Width) (xs u : List ℤ) (x : ℤ) : Type 0 where
   pub is : x ≡ wrap w (dot u xs)
 
--- a signed local holds bits, so an operand is `toZ w (ofZ w x)`: an operation as a contract of the crate `word` states it
+-- a signed local holds bits, so an operand is `toZ w (ofZ w x)`: an operation as a contract of the crate `wrapping` states it
 module _ (w : Width) where
   abbrev pub add : ℤ → ℤ → ℤ
   add x y = wrap w (toZ w (ofZ w x) +ℤ toZ w (ofZ w y))

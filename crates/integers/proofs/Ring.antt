@@ -1,4 +1,4 @@
--- The ring laws of ℤ that `lib.IntN` lacks, and sizes. Each is by `omega` on differences; `simp ring` proves an identity of polynomials.
+-- The ring laws of ℤ that `lib.IntN` lacks, and absolute values. Each is by `omega` on differences; `simp ring` proves an identity of polynomials.
 -- Assumes nothing.
 use mathlib.Core.Path.{_≡_, refl}
 use Prim.Native.Nat.{suc, _+_, _*_, _≤_}

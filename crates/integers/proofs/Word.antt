@@ -1,4 +1,4 @@
--- What the code of the crate `word` asks and gives, at any width. A signed local holds bits, so each need speaks of `toZ w (ofZ w x)`,
+-- What the code of the crate `wrapping` asks and gives, at any width. A signed local holds bits, so each need speaks of `toZ w (ofZ w x)`,
 -- which is x where x fits.
 -- Assumes nothing.
 use mathlib.Core.Path.{_≡_, refl, sym, ap, _∙_, subst}
@@ -72,7 +72,7 @@ module _ (w : Width) {x : ℤ} (f : SFits w x) where
       Unsigned w y × (natAbs y ≤ 2 ^ bits w - 1) × (2 ^ bits w - 1 - natAbs y ≡ ofZ w x)
   to-bits-neg t = rw flipped (cast-neg w x f (rw (toZ-ofZ w x f) at t))
 
-  -- the size of x: `x as u64` where x is at least 0, else `((-1 - x) as u64) + 1`
+  -- the absolute value of x: `x as u64` where x is at least 0, else `((-1 - x) as u64) + 1`
   pub abs-nonneg : natAbs (toZ w (ofZ w x)) ≡ natAbs x
   abs-nonneg = ap natAbs (toZ-ofZ w x f)
 

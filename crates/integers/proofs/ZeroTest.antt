@@ -16,9 +16,11 @@ use mir.Val.{bits, hbits, ofZ}
 use mir.ValLaws.{pow-bits}
 use Rattle.integers.specs.Linear.{zeroAt}
 
--- n is 0 exactly when the entries ks of xs are zero
-pub record Tests (xs : List ℤ) (n : ℕ) (ks : List ℕ) : Type 0 where
-  pub is : eqb n 0 ≡ zeroAt ks xs
+-- the bits of the entries ks of xs, together by `|`
+abbrev pub bitsOf : Width → List ℤ → List ℕ → ℕ
+bitsOf w xs [] = 0
+bitsOf w xs (k ∷ []) = ofZ w (getD xs k (pos 0))
+bitsOf w xs (k ∷ j ∷ ks) = bitOr (ofZ w (getD xs k (pos 0))) (bitsOf w xs (j ∷ ks))
 
 or-eqb : (a b : ℕ) → eqb (bitOr a b) 0 ≡ eqb a 0 && eqb b 0
 or-eqb zero b = rw (or-zero-l b)
@@ -38,12 +40,10 @@ module _ (w : Width) where
   and-true true = refl
   and-true false = refl
 
-  module _ {xs : List ℤ} (k : ℕ) (f : mag (getD xs k (pos 0)) < 2 ^ hbits w) where
-    -- entry k alone, and in front of others
-    pub last-zero : Tests xs (ofZ w (getD xs k (pos 0))) (k ∷ [])
-    unfolding zeroAt
-    last-zero = record { is = zero-bits (getD xs k (pos 0)) f ∙ and-true _ }
-
-    pub also-zero : {n : ℕ} {ks : List ℕ} → Tests xs n ks → Tests xs (bitOr (ofZ w (getD xs k (pos 0))) n) (k ∷ ks)
-    unfolding zeroAt
-    also-zero {n} t = record { is = or-eqb (ofZ w (getD xs k (pos 0))) n ∙ (λ i. zero-bits (getD xs k (pos 0)) f i && t .is i) }
+  -- the test of entries that fit the width
+  pub zero-test : (xs : List ℤ) → ((k : ℕ) → mag (getD xs k (pos 0)) < 2 ^ hbits w) → (ks : List ℕ) → eqb (bitsOf w xs ks) 0 ≡ zeroAt ks xs
+  unfolding zeroAt
+  zero-test xs f [] = refl
+  zero-test xs f (k ∷ []) = zero-bits (getD xs k (pos 0)) (f k) ∙ and-true _
+  zero-test xs f (k ∷ j ∷ ks) =
+      or-eqb (ofZ w (getD xs k (pos 0))) (bitsOf w xs (j ∷ ks)) ∙ (λ i. zero-bits (getD xs k (pos 0)) (f k) i && zero-test xs f (j ∷ ks) i)

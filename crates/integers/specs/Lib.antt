@@ -2,3 +2,4 @@ pub mod Wrap
 pub mod Floor
 pub mod Linear
 pub mod Equal
+pub mod Fits16

@@ -18,7 +18,7 @@ dot (c ∷ cs) (x ∷ xs) = c *ℤ x +ℤ dot cs xs
 unfoldable pub transform : Width → List (List ℤ) → List ℤ → List ℤ
 transform w rows xs = map (λ (row : List ℤ). wrap w (dot row xs)) rows
 
--- the sum of the coefficients' sizes: the L1 norm of a form
+-- the sum of the coefficients' absolute values: the L1 norm of a form
 unfoldable pub weight : List ℤ → ℕ
 weight [] = 0
 weight (c ∷ cs) = natAbs c + weight cs

@@ -1,7 +1,13 @@
-// The 8-point 1-D ISLOW transform in wrapping i32 arithmetic (idct.rs, `islow_butterflies!` at i32; document 01, leaf 2).
+// The 8-point 1-D ISLOW transform in wrapping i32 arithmetic (idct.rs, `islow_butterflies!` at i32; document 01, leaf 2). In `direct` the
+// same by direct products, in `reduced` the 4- and the 2-point transform.
 //
-// Only sums, differences and products by constants appear, so each output is a linear form of p modulo 2^32: a row of
-// gains, whatever the order of the steps. Outputs are scaled by 2^CONST_BITS.
+// The steps are those of libjpeg's jidctint.c, after Loeffler, Ligtenberg and Moschytz; outputs are scaled by 2^CONST_BITS. Only sums,
+// differences and products by constants appear, each wrapping modulo 2^32, so each output is a linear form of p modulo 2^32: a row of
+// gains, whatever the order of the steps (`eight-point` of gains/proofs/Butterfly.antt). A row's gains sum to at most 61214 in absolute
+// value: of 16-bit numbers the outputs stay below 2^31, and are the exact sums (`wrap-dot` of integers/proofs/Bound.antt).
+pub mod direct;
+pub mod reduced;
+
 ghost use mathlib.Core.Path.{_≡_};
 ghost use mir.Syntax.{w32};
 ghost use Rattle.integers.specs.Linear.{transform};
@@ -19,9 +25,9 @@ use gains::FIX_1_961570560;
 use gains::FIX_2_053119869;
 use gains::FIX_2_562915447;
 use gains::FIX_3_072711026;
-use word::wrapping_add_i32 as add;
-use word::wrapping_mul_i32 as mul;
-use word::wrapping_sub_i32 as sub;
+use wrapping::wrapping_add_i32 as add;
+use wrapping::wrapping_mul_i32 as mul;
+use wrapping::wrapping_sub_i32 as sub;
 
 // The 8-point transform (jidctint.c).
 pub fn islow_1d(p: [i32; 8]) -> [i32; 8]

@@ -1,7 +1,11 @@
-// The 8-point 1-D ISLOW transform in wrapping i64 arithmetic, which 16-bit input never wraps (idct.rs, `islow_butterflies!` at i64; document 01, leaf 2).
+// The 8-point 1-D ISLOW transform in wrapping i64 arithmetic, for the 12-bit blocks (idct.rs, `islow_butterflies!` at i64; document 01,
+// leaf 2); in `reduced` the 4- and the 2-point transform.
 //
-// Only sums, differences and products by constants appear, so each output is a linear form of p modulo 2^64: a row of
-// gains, whatever the order of the steps. Outputs are scaled by 2^CONST_BITS.
+// The steps are those of crate islow; outputs are scaled by 2^CONST_BITS. Each output is a linear form of p modulo 2^64: a row of gains,
+// whatever the order of the steps (`eight-point` of gains/proofs/Butterfly.antt). 16-bit input, and what a column pass makes of it,
+// never wraps (`exact-eight` of block/proofs/Exact.antt).
+pub mod reduced;
+
 ghost use mathlib.Core.Path.{_≡_};
 ghost use mir.Syntax.{w64};
 ghost use Rattle.integers.specs.Linear.{transform};
@@ -19,9 +23,9 @@ use gains::fix_i64::FIX_1_961570560;
 use gains::fix_i64::FIX_2_053119869;
 use gains::fix_i64::FIX_2_562915447;
 use gains::fix_i64::FIX_3_072711026;
-use word_i64::wrapping_add_i64 as add;
-use word_i64::wrapping_mul_i64 as mul;
-use word_i64::wrapping_sub_i64 as sub;
+use wrapping::wrapping_add_i64 as add;
+use wrapping::wrapping_mul_i64 as mul;
+use wrapping::wrapping_sub_i64 as sub;
 
 // The 8-point transform (jidctint.c).
 pub fn islow_1d_i64(p: [i64; 8]) -> [i64; 8]

@@ -1,22 +1,104 @@
-// The guarded quantizer and its divisors (crate transform_into).
+// The guarded quantizer and its divisors (crates transform and fdct_f64), with their answers in lent places.
 ghost use mathlib.Core.Path.{_≡_};
-ghost use mathlib.Core.List.{[], _∷_};
-ghost use Rattle.guarded_floats.specs.Divisors.{divisorsAnswer};
-ghost use Rattle.refusals.specs.Refusals.{written};
-ghost use Rattle.guarded_floats.specs.Into.{madeStatus};
-ghost use Rattle.guarded_quantizer.specs.Answer.{guardedAnswer};
-ghost use Rattle.guarded_quantizer.specs.Into.{guardedStatus};
-use transform_into::divisors::quantization_divisors_into;
-use transform_into::fdct_quantize_into;
+ghost use mathlib.Core.List.{[], _∷_, _++_};
+ghost use lib.ListN.{length, getD};
+ghost use lib.IntN.{pos};
+ghost use lib.Ieee.{nan};
+ghost use Rattle.lists.specs.Tab.{tab};
+ghost use Rattle.refusals.specs.Refusals.{_unless_, _of_, status, written};
+ghost use Rattle.guarded_quantizer.specs.Divisors.{tableTests, divisorsAnswer};
+ghost use Rattle.guarded_quantizer.specs.Answer.{guardedTests, guardedAnswer};
+ghost use Rattle.jpeg_block.specs.Places.{recordTests, handed};
+use fdct_f64::quantization_divisors;
+use guarded_quantizer::QuantizationDivisors;
+use transform::fdct_quantize;
 
+fn put_reciprocals(from: &[f64; 64], to: &mut [f64])
+    requires { ⌜ length (now to) ≡ 64 ⌝ }
+    ensures { λ _. ⌜ now (to .exit) ≡ tab 64 (λ n. getD (now (from .entry)) n nan) ⌝ }
+{
+    let mut n = 0;
+    while n < 64 {
+        to[n] = from[n];
+        n += 1;
+    }
+}
+
+// Apart from the exported function: written there, the compiler makes a longer loop of it.
+fn quantization_divisors_into(quant: &[u8], out: &mut [f64]) -> u32
+    ensures { λ r. ⌜ r ≡ status (tableTests (now (quant .entry)) ++ 3 unless now (out .entry) of 64 ∷ []) ⌝ }
+    ensures { λ r. ⌜ now (out .exit) ≡ written r (divisorsAnswer (now (quant .entry)) .divisors .reciprocals) (now (out .entry)) ⌝ }
+{
+    let made = quantization_divisors(quant);
+    if made.status != 0 {
+        return made.status;
+    }
+    if out.len() != 64 {
+        return 3;
+    }
+    put_reciprocals(&made.divisors.reciprocals, out);
+    0
+}
+
+// `fdct_f64::quantization_divisors`. Refusals 2 and 5, then 3 for the output.
 #[no_mangle]
 pub extern "C" fn jpeg_block_quantization_divisors(quant: &[u8], out: &mut [f64]) -> u32
-    ensures { λ r. ⌜ r ≡ madeStatus (now (quant .entry)) (now (out .entry)) ⌝ }
+    ensures { λ r. ⌜ r ≡ status (tableTests (now (quant .entry)) ++ 3 unless now (out .entry) of 64 ∷ []) ⌝ }
     ensures { λ r. ⌜ now (out .exit) ≡ written r (divisorsAnswer (now (quant .entry)) .divisors .reciprocals) (now (out .entry)) ⌝ }
 {
     quantization_divisors_into(quant, out)
 }
 
+// The status by the entry's own, and by the lengths of what only this form has.
+fn record_status(number: u32, reciprocals: usize, dc: usize, ac: usize, nonzero_ac: usize) -> u32
+    ensures { λ r. ⌜ r ≡ written number (status (recordTests reciprocals dc ac «nonzero_ac»)) number ⌝ }
+{
+    if number != 0 {
+        return number;
+    }
+    if reciprocals != 64 {
+        return 2;
+    }
+    if dc != 1 {
+        return 3;
+    }
+    if ac != 64 {
+        return 3;
+    }
+    if nonzero_ac != 1 {
+        return 3;
+    }
+    0
+}
+
+// The divisors by value; 64 zeros where they are not 64, which is refused.
+fn by_value(reciprocals: &[f64]) -> QuantizationDivisors
+    ensures { λ r. ⌜ r .reciprocals ≡ handed (now (reciprocals .entry)) ⌝ }
+{
+    let mut held = [0.0f64; 64];
+    if reciprocals.len() == 64 {
+        let mut n = 0;
+        while n < 64 {
+            held[n] = reciprocals[n];
+            n += 1;
+        }
+    }
+    QuantizationDivisors { reciprocals: held }
+}
+
+fn put_ac(from: &[i16; 64], to: &mut [i16])
+    requires { ⌜ length (now to) ≡ 64 ⌝ }
+    ensures { λ _. ⌜ now (to .exit) ≡ tab 64 (λ z. getD (now (from .entry)) z (pos 0)) ⌝ }
+{
+    let mut z = 0;
+    while z < 64 {
+        to[z] = from[z];
+        z += 1;
+    }
+}
+
+// `transform::fdct_quantize`: refusals 1, 2 and 5, then 2 for the divisors and 3 for a place. The divisors are used as handed over,
+// whatever they hold.
 #[no_mangle]
 pub extern "C" fn jpeg_block_fdct_quantize_guarded(
     block: &[u8],
@@ -26,10 +108,25 @@ pub extern "C" fn jpeg_block_fdct_quantize_guarded(
     ac: &mut [i16],
     nonzero_ac: &mut [u64],
 ) -> u32
-    ensures { λ r. ⌜ r ≡ guardedStatus (now (block .entry)) (now (quant .entry)) (now (divisors .entry)) (now (dc .entry)) (now (ac .entry)) (now («nonzero_ac» .entry)) ⌝ }
+    ensures { λ r. ⌜ r ≡ status (guardedTests (now (block .entry)) (now (quant .entry)) ++ recordTests (length (now (divisors .entry))) (length (now (dc .entry))) (length (now (ac .entry))) (length (now («nonzero_ac» .entry)))) ⌝ }
     ensures { λ r. ⌜ now (dc .exit) ≡ written r (guardedAnswer (now (block .entry)) (now (quant .entry)) (now (divisors .entry)) .block .dc ∷ []) (now (dc .entry)) ⌝ }
     ensures { λ r. ⌜ now (ac .exit) ≡ written r (guardedAnswer (now (block .entry)) (now (quant .entry)) (now (divisors .entry)) .block .«ac_coefficients») (now (ac .entry)) ⌝ }
     ensures { λ r. ⌜ now («nonzero_ac» .exit) ≡ written r (guardedAnswer (now (block .entry)) (now (quant .entry)) (now (divisors .entry)) .block .«nonzero_ac» ∷ []) (now («nonzero_ac» .entry)) ⌝ }
 {
-    fdct_quantize_into(block, quant, divisors, dc, ac, nonzero_ac)
+    let answer = fdct_quantize(block, quant, by_value(divisors));
+    let status = record_status(
+        answer.status,
+        divisors.len(),
+        dc.len(),
+        ac.len(),
+        nonzero_ac.len(),
+    );
+    if status != 0 {
+        return status;
+    }
+    let record = answer.block;
+    dc[0] = record.dc;
+    put_ac(&record.ac_coefficients, ac);
+    nonzero_ac[0] = record.nonzero_ac;
+    0
 }

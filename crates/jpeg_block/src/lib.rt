@@ -7,4 +7,5 @@ mod canonical;
 mod guarded;
 mod inverse;
 mod inverse_i32;
+mod place;
 mod stored;

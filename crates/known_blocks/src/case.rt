@@ -2,7 +2,7 @@
 ghost use Prim.Native.Nat.{_<_, _≤_};
 
 // The most numbers that a case has.
-pub const MOST: usize = 8;
+pub const MOST: usize = 20;
 
 // What is read of a line: how many numbers ended, and the one at hand.
 struct Scan {
@@ -78,14 +78,14 @@ pub fn numbers(line: &[u8]) -> [u64; MOST] {
     found
 }
 
-pub fn byte(v: &[u64; MOST], k: usize) -> u8
-    requires { ⌜ k < 8 ⌝ }
+pub fn u8_at(v: &[u64; MOST], k: usize) -> u8
+    requires { ⌜ k < 20 ⌝ }
 {
     (v[k] % 256) as u8
 }
 
-pub fn short(v: &[u64; MOST], k: usize) -> i16
-    requires { ⌜ k < 8 ⌝ }
+pub fn i16_at(v: &[u64; MOST], k: usize) -> i16
+    requires { ⌜ k < 20 ⌝ }
 {
     let x = (v[k] % 65536) as u16;
     if x <= 0x7fff {
@@ -95,15 +95,15 @@ pub fn short(v: &[u64; MOST], k: usize) -> i16
     }
 }
 
-pub fn word(v: &[u64; MOST], k: usize) -> i32
-    requires { ⌜ k < 8 ⌝ }
+pub fn i32_at(v: &[u64; MOST], k: usize) -> i32
+    requires { ⌜ k < 20 ⌝ }
 {
-    bits::from_bits_u32((v[k] % 4_294_967_296) as u32)
+    wrapping::bits::from_bits_u32((v[k] % 4_294_967_296) as u32)
 }
 
 // How many places of a room.
 pub fn places(v: &[u64; MOST], k: usize) -> usize
-    requires { ⌜ k < 8 ⌝ }
+    requires { ⌜ k < 20 ⌝ }
     ensures { λ r. ⌜ r ≤ 65 ⌝ }
 {
     (v[k] % 66) as usize
@@ -111,7 +111,7 @@ pub fn places(v: &[u64; MOST], k: usize) -> usize
 
 // A place of a block.
 pub fn entry(v: &[u64; MOST], k: usize) -> usize
-    requires { ⌜ k < 8 ⌝ }
+    requires { ⌜ k < 20 ⌝ }
     ensures { λ r. ⌜ r < 64 ⌝ }
 {
     (v[k] % 64) as usize

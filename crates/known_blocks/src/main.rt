@@ -11,7 +11,7 @@ fn answer(name: &[u8], function: usize, line: &[u8]) {
     io::write_all(STDOUT_FILENO, name);
     io::write_all(STDOUT_FILENO, b" ");
     io::write_all(STDOUT_FILENO, line);
-    call::call(function, &case::numbers(line));
+    crate::call::call(function, &crate::case::numbers(line));
     io::write_all(STDOUT_FILENO, b"\n");
 }
 
@@ -27,15 +27,10 @@ fn run(name: &[u8], function: usize, line: &[u8]) {
 
 fn run_each(name: &[u8], function: usize, lines: &[u8]) {
     let mut start = 0;
-    let mut i = 0;
-    while i < lines.len() {
-        if lines[i] != b'\n' {
-            i += 1;
-            continue;
-        }
-        run(name, function, &lines[start..i]);
-        i += 1;
-        start = i;
+    while start < lines.len() {
+        let end = bytes::scan::find(lines, start, lines.len(), b'\n');
+        run(name, function, &lines[start..end]);
+        start = end + 1;
     }
 }
 
@@ -51,30 +46,26 @@ fn run_file(name: &[u8], function: usize) {
     run_each(name, function, &lines[..got]);
 }
 
-// Runs the functions of the names, each of which a blank ends.
-fn run_files(names: &[u8]) {
-    let mut function = 0;
-    let mut start = 0;
-    let mut i = 0;
-    while i < names.len() {
-        if names[i] != b' ' {
-            i += 1;
-            continue;
-        }
-        run_file(&names[start..i], function);
-        function += 1;
-        i += 1;
-        start = i;
-    }
-}
-
-// In the order of call.rt's numbers.
+// A file and its function's number in call.rt.
 fn main() {
-    run_files(
-        b"descale sample_u8 sample_12bit islow_gain_bounds islow_block islow_block_top_half \
-          islow_block_4x4 islow_block_2x2 islow_block_12bit islow_block_12bit_4x4 \
-          islow_block_12bit_2x2 islow_block_i32 islow_block_top_half_i32 fdct_quantize \
-          fdct_quantize_coefficient transform_fdct_quantize quantization_divisors dequantize \
-          screen same ",
-    );
+    run_file(b"descale", 0);
+    run_file(b"sample_u8", 1);
+    run_file(b"sample_12bit", 2);
+    run_file(b"islow_gain_bounds", 3);
+    run_file(b"islow_block", 4);
+    run_file(b"islow_block_top_half", 5);
+    run_file(b"islow_block_4x4", 6);
+    run_file(b"islow_block_2x2", 7);
+    run_file(b"islow_block_12bit", 8);
+    run_file(b"islow_block_12bit_4x4", 9);
+    run_file(b"islow_block_12bit_2x2", 10);
+    run_file(b"islow_block_i32", 11);
+    run_file(b"islow_block_top_half_i32", 12);
+    run_file(b"fdct_quantize", 13);
+    run_file(b"fdct_quantize_coefficient", 14);
+    run_file(b"transform_fdct_quantize", 15);
+    run_file(b"quantization_divisors", 16);
+    run_file(b"dequantize", 17);
+    run_file(b"screen", 18);
+    run_file(b"same", 19);
 }

@@ -17,7 +17,7 @@ fn refusal(status: u32) {
 }
 
 fn number(n: i32) {
-    let bits = bits::to_bits_i32(n);
+    let bits = wrapping::bits::to_bits_i32(n);
     if n < 0 {
         io::write_all(STDOUT_FILENO, b"-");
         io::print_decimal(STDOUT_FILENO, std::num::wrapping_sub_u32(0, bits) as u64);

@@ -6,7 +6,7 @@ use lib.ListN.{getD, replicate}
 use lib.IntN.{ℤ, pos, _-ℤ_, _*ℤ_}
 use Rattle.lists.specs.Tab.{tab}
 use Rattle.lists.proofs.Tab.{tab-ext}
-use Rattle.gram.proofs.Equal.{basisSums, equal-sum}
+use Rattle.orthogonality.proofs.Equal.{basisSums, equal-sum}
 use Rattle.quantize.specs.Quantize.{divisorOf, rounded, withSign, coefficient}
 use Rattle.forward.specs.Canonical.{canonical, coefficients}
 use Rattle.integers.specs.Wrap.{modulo, wrap}

@@ -7,8 +7,8 @@ use lib.ListN.{replicate}
 use lib.IntN.{ℤ}
 use Rattle.lists.specs.Tab.{tab}
 use Rattle.quantize.specs.Quantize.{divisorOf, rounded, withSign, coefficient}
-use Rattle.coefficient_lines.specs.Lines.{digits, decimal, separator, numbers}
-use Rattle.coefficient_lines.specs.Text.{header, same, accepted, text}
+use Rattle.coefficient_text.specs.Lines.{digits, numeral, separator, numbers}
+use Rattle.coefficient_text.specs.Text.{header, same, accepted, text}
 use Rattle.known_table.proofs.Table.{equal, equal-coefficients}
 
 -- " 0 0 0 0 0 0 0\n"
@@ -23,7 +23,7 @@ abbrev printed : List ℕ
 printed = (49 ∷ 48 ∷ 49 ∷ 54 ∷ zeros) ++ (line ++ (line ++ (line ++ (line ++ (line ++ (line ++ line))))))
 
 computed : numbers (equal 255 1) 64 ≡ printed
-unfolding numbers decimal digits separator equal tab coefficient divisorOf rounded withSign
+unfolding numbers numeral digits separator equal tab coefficient divisorOf rounded withSign
 computed = refl
 
 pub white : text (header ++ replicate 64 255) ≡ printed

@@ -2,17 +2,23 @@
 -- Assumes nothing.
 use Prim.Native.Nat.{ℕ, zero, suc, _+_, _≤_, _<_}
 use mathlib.Core.Path.{_≡_, refl, sym, ap, subst, _∙_}
-use mathlib.Core.Bool.{Bool, true, false}
+use mathlib.Core.Bool.{Bool, true, false, cond, not}
 use mathlib.Core.List.{List, [], _∷_, _++_, map, append-assoc, append-nil}
 use native.Mathlib.Decide.{decLt}
 use native.Mathlib.Nat.{le-of-lt, add-zero, add-suc}
 use native.Mathlib.Numerals.{add-one}
 use native.Mathlib.Omega.{arith}
-use borrow.Author.Tests.{eqb-true, eqb-false}
+use borrow.Author.Tests.{eqb-true, eqb-false, eq-eqb, ne-eqb}
 use lib.Dec.{eqb}
-use lib.ListN.{length, take, set, getD, length-set, length-append, List·getD-append, List·getD-eq-default}
+use lib.ListN.{length, take, set, getD, length-set, length-append, length-take, List·getD-append, List·getD-eq-default}
 use lib.Seq.{take-all, take-suc, take-suc-set, getD-at, ext-getD, getD-set-same, getD-set-other, getD-drop, paste, length-paste, take-paste, drop-paste}
 use Rattle.lists.specs.Tab.{tab}
+use Rattle.lists.specs.Below.{below}
+
+pub length-tab : {A : Type 0} (n : ℕ) (f : ℕ → A) → length (tab n f) ≡ n
+unfolding tab
+length-tab zero f = refl
+length-tab (suc n) f = omega (arith, length-append (tab n f) (f n ∷ []), length-tab n f)
 
 -- l has n elements, of which the first k are f's
 pub record Filled {A : Type 0} (f : ℕ → A) (n k : ℕ) (l : List A) : Type 0 where
@@ -39,6 +45,15 @@ module _ {A : Type 0} (f : ℕ → A) (n : ℕ) where
       let e : k ≡ n = omega arith in
       sym (take-all k l (omega (arith, h .long))) ∙ h .front ∙ ap (λ (m : ℕ). tab m f) e
 
+-- such a loop's turn, and its end
+pub next : {A : Type 0} {f : ℕ → A} {n k : ℕ} {l : List A} {v : A} → Filled f n k l → k < n → v ≡ f k → Filled f n (k + 1) (set l k v)
+next {f = f} {n = n} {k = k} {l = l} {v = v} h b e = more f n k (k + 1) l v h b refl e
+
+pub filled : {A : Type 0} {f : ℕ → A} {n k : ℕ} {l : List A} → Filled f n k l → n ≤ k → l ≡ tab n f
+filled {f = f} {n = n} {k = k} {l = l} h a =
+    let within : k ≤ n = omega (arith, h .long, ap length (h .front), length-take k l, length-tab k f) in
+    all f n k l h a within
+
 -- a list by its own elements
 tab-take : {A : Type 0} (d : A) (l : List A) (k : ℕ) → k ≤ length l → tab k (λ i. getD l i d) ≡ take k l
 unfolding tab
@@ -49,11 +64,6 @@ pub tab-getD : {A : Type 0} (d : A) (l : List A) (n : ℕ) → length l ≡ n �
 tab-getD d l n e = tab-take d l n (omega arith) ∙ take-all n l (omega arith)
 
 -- what stands at a place, and two such lists that agree at each place
-pub length-tab : {A : Type 0} (n : ℕ) (f : ℕ → A) → length (tab n f) ≡ n
-unfolding tab
-length-tab zero f = refl
-length-tab (suc n) f = omega (arith, length-append (tab n f) (f n ∷ []), length-tab n f)
-
 pub getD-tab : {A : Type 0} (n : ℕ) (f : ℕ → A) (d : A) (i : ℕ) → i < n → getD (tab n f) i d ≡ f i
 unfolding tab
 getD-tab zero f d i h = absurd (omega arith)
@@ -105,6 +115,39 @@ set-tab n f g k v h e o = by-elements n g v (set (tab n f) k v) (length-set (tab
     go : (j : ℕ) → j < n → (t : Bool) → eqb j k ≡ t → getD (set (tab n f) k v) j v ≡ g j
     go j b true q = let i : j ≡ k = eqb-true j k q in rw i (getD-set-same (tab n f) k v v (omega (arith, length-tab n f)) ∙ e)
     go j b false q = let i : j ≡ k → ⊥ = eqb-false j k q in getD-set-other (tab n f) k j v v i ∙ getD-tab n f v j b ∙ o j b i
+
+infixl 20 _▸_
+-- l is l₀ with f's elements stored at the places p 0, p 1, .. p (k - 1), one after the other
+pub data Stored {A : Type 0} (p : ℕ → ℕ) (f : ℕ → A) (l₀ : List A) : ℕ → List A → Type 0 where
+  begin : Stored p f l₀ 0 l₀
+  _▸_ : {k : ℕ} {l m : List A} → Stored p f l₀ k l → m ≡ set l (p k) (f (p k)) → Stored p f l₀ (suc k) m
+
+-- none of those places is i
+abbrev pub missed : (ℕ → ℕ) → ℕ → ℕ → Bool
+missed p k i = below k (λ j. not (eqb (p j) i))
+
+module _ {A : Type 0} (d : A) (n : ℕ) (p : ℕ → ℕ) (f : ℕ → A) (l₀ : List A) where
+  abbrev held : ℕ → ℕ → A
+  held k i = cond (missed p k i) (getD l₀ i d) (f i)
+
+  here : (k i : ℕ) → p k ≡ i → f i ≡ held (suc k) i
+  unfolding below
+  here k i e = simp (eq-eqb (p k) i e) refl
+
+  there : (k i : ℕ) → (p k ≡ i → ⊥) → held k i ≡ held (suc k) i
+  unfolding below
+  there k i e = simp (ne-eqb (p k) i e) refl
+
+  one-more : (k : ℕ) → p k < n → {l m : List A} → l ≡ tab n (held k) → m ≡ set l (p k) (f (p k)) → m ≡ tab n (held (suc k))
+  one-more k b el em =
+      em ∙ ap (λ (t : List A). set t (p k) (f (p k))) el
+      ∙ set-tab n (held k) (held (suc k)) (p k) (f (p k)) b (here k (p k) refl) (λ i _ o. there k i (λ q. o (sym q)))
+
+  -- the places reached hold f's elements, the others are as they were
+  pub stored-tab : {k : ℕ} {l : List A} → Stored p f l₀ k l → length l₀ ≡ n → ((j : ℕ) → j < k → p j < n) → l ≡ tab n (λ i. cond (missed p k i) (getD l₀ i d) (f i))
+  unfolding below
+  stored-tab begin e h = sym (tab-getD d l₀ n e)
+  stored-tab (_▸_ {k = k} s em) e h = one-more k (h k (omega arith)) (stored-tab s e (λ j b. h j (omega arith))) em
 
 -- a run of elements that follow those already there
 pub tab-append : {A : Type 0} (f : ℕ → A) (k n : ℕ) → tab k f ++ tab n (λ j. f (k + j)) ≡ tab (k + n) f

@@ -1,7 +1,11 @@
-// The column and row passes of the 8-bit 8-point ISLOW transform (idct.rs; document 01, "The inverse blocks").
+// The column and row pass of the 8-bit 8-point ISLOW transform without their zero shortcuts (idct.rs, `islow_pass1`, `islow_pass2`; document
+// 01, "The inverse blocks"); in `zero_shortcut` with them.
 //
-// The column pass keeps PASS1_BITS fraction bits, the row pass takes them and the 1/8 normalisation off again. Their zero shortcuts
-// are in crate zero_shortcut.
+// The transform scales by 2^CONST_BITS. The column pass scales down but for PASS1_BITS fraction bits; the row pass takes these and the 1/8
+// normalisation off. Arithmetic wraps modulo 2^32, as document 01 has it; for 16-bit input the column pass does not
+// (`column-eight` of block/proofs/Column.antt).
+pub mod zero_shortcut;
+
 ghost use mathlib.Core.Path.{_≡_};
 ghost use mathlib.Core.List.{map};
 ghost use Prim.Native.Nat.{_≤_};
@@ -16,6 +20,7 @@ use scaling::descale_i32;
 
 // Right shift that ends the column pass.
 pub const PASS1_SHIFT: u32 = (CONST_BITS - PASS1_BITS) as u32;
+
 // Right shift that ends the row pass, with the 1/8 normalisation.
 pub const PASS2_SHIFT: u32 = (CONST_BITS + PASS1_BITS + 3) as u32;
 

@@ -38,7 +38,7 @@ rounded-steps a d p =
     let unit′ : 2 * (d * 2 ^ 31) ≡ d * 2 ^ 32 = omega arith in
     div-div-eq-div-mul (a + d * 2 ^ 31) (2 ^ 32) d ∙ ap (λ (m : ℕ). (a + d * 2 ^ 31) / m) unit ∙ rounded-half a (d * 2 ^ 31) (omega arith) ∙ ap (rounded a) unit′
 
--- ---- as the code has them: a is the size of S, d the divisor
+-- ---- as the code has them: a is the absolute value of S, d the divisor
 
 module _ (a d : ℕ) (bound : a ≤ 2 ^ 46) (least : 0 < d) (most : d < 2 ^ 16) where
   pub size-fits : (a + d * 2 ^ 31) / 2 ^ 32 < 2 ^ 16
@@ -66,7 +66,7 @@ unfolding withSign
 sign-size (pos n) k = refl
 sign-size (negsuc n) k = natAbs-neg (pos k)
 
--- what the code gives for the sign, with its size
+-- what the code gives for the sign, with its absolute value
 pub sized : (S : ℤ) {r : ℤ} {n m : ℕ} → n < 2 ^ 15 → r ≡ withSign S n → n ≡ m → (r ≡ withSign S m) × (natAbs r < 2 ^ 15)
 sized S {n} h e steps = (e ∙ ap (withSign S) steps, subst (λ (z : ℤ). natAbs z < 2 ^ 15) (sym e) (omega (arith, sign-size S n)))
 

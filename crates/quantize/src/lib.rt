@@ -1,7 +1,7 @@
 // Canonical quantizing (fdct.rs, `quantize`; document 01, leaf 4; T.81 A.3.4).
 //
 // floor((|S| + d·2^31) / (d·2^32)) = floor(floor((|S| + d·2^31) / 2^32) / d): one shift and one division in 32 bits. |S| is at most
-// 2^42 for 8-bit samples and 2^46 for 12-bit ones, so the size before that division is below 2^16 for any 16-bit quantizer.
+// 2^42 for 8-bit samples and 2^46 for 12-bit ones, so the absolute value before that division is below 2^16 for any 16-bit quantizer.
 ghost use mathlib.Core.Path.{_≡_};
 ghost use Prim.Native.Nat.{_<_, _≤_, _^_};
 ghost use lib.IntN.{natAbs};

@@ -3,8 +3,8 @@ ghost use mathlib.Core.Path.{_≡_};
 ghost use Prim.Native.Nat.{_≤_};
 ghost use mir.Syntax.{w32, w64};
 ghost use Rattle.scaling.specs.Scaling.{descaled, descaleAnswer};
-use word::wrapping_add_i32;
-use word_i64::wrapping_add_i64;
+use wrapping::wrapping_add_i32;
+use wrapping::wrapping_add_i64;
 
 // What `descale` answers: status 0 and the value, or a refusal's number and 0.
 pub struct Descaled {

@@ -1,20 +1,25 @@
 // The guarded quantizer (transform.rs, `fdct_quantize` without its vector code; document 01, "The guarded quantizer").
 //
-// After the refusals a block of equal samples goes its own way (crate constant_block); of any other, the guarded coefficients (crate guarded)
-// are laid out as one record (crate quantized_block).
+// After the refusals a block of equal samples goes its own way (`constant`); of any other, the guarded coefficients (`guarded`: the
+// values of crate fdct_f64 times the reciprocals, rounded from their bits, `binary64`) are laid out as one record (`record`).
+mod binary64;
+mod constant;
+mod guarded;
+mod record;
+
 ghost use mathlib.Core.Path.{_≡_};
-ghost use Rattle.guarded_quantizer.specs.Answer.{refusal, guardedAnswer};
-use aan::has_zero;
-use constant_block::all_equal;
-use constant_block::constant_record;
-use guarded::guarded_coefficients;
-use guarded_floats::QuantizationDivisors;
+ghost use Rattle.guarded_quantizer.specs.Answer.{quantized, zeroRecord, guardedAnswer};
+use crate::constant::all_equal;
+use crate::constant::constant_record;
+use crate::guarded::guarded_coefficients;
+use crate::record::from_natural_order;
+use fdct_f64::has_zero;
+use guarded_quantizer::QuantizationDivisors;
 use guarded_quantizer::Quantized;
-use quantized_block::from_natural_order;
-use quantized_record::QuantizedBlock;
+use guarded_quantizer::QuantizedBlock;
 
 fn refused(status: u32) -> Quantized
-    ensures { λ r. ⌜ r ≡ refusal status ⌝ }
+    ensures { λ r. ⌜ r ≡ quantized status zeroRecord ⌝ }
 {
     Quantized {
         status,

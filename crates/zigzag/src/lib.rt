@@ -1,7 +1,9 @@
-// Zigzag order (`ZIGZAG` of jpeg.rs, `NATURAL_TO_ZIGZAG` of transform.rs; document 01, "The guarded quantizer"; T.81 A.3.6 and
+// Zigzag order (`ZIGZAG` of jpeg.rs; in `natural` its inverse, `NATURAL_TO_ZIGZAG` of transform.rs; document 01, "The guarded quantizer"; T.81 A.3.6 and
 // figure 5): place z of a stream of coefficients holds the coefficient with the natural index n = 8v + u.
+pub mod natural;
+
 ghost use mathlib.Core.Path.{_≡_};
-ghost use Rattle.zigzag.specs.Zigzag.{zigzagOrder, places};
+ghost use Rattle.zigzag.specs.Zigzag.{zigzagOrder};
 
 // The natural index at each place.
 pub const ZIGZAG: [u8; 64] = [
@@ -71,84 +73,9 @@ pub const ZIGZAG: [u8; 64] = [
     63,
 ];
 
-// The place of each natural index.
-pub const NATURAL_TO_ZIGZAG: [usize; 64] = [
-    0,
-    1,
-    5,
-    6,
-    14,
-    15,
-    27,
-    28,
-    2,
-    4,
-    7,
-    13,
-    16,
-    26,
-    29,
-    42,
-    3,
-    8,
-    12,
-    17,
-    25,
-    30,
-    41,
-    43,
-    9,
-    11,
-    18,
-    24,
-    31,
-    40,
-    44,
-    53,
-    10,
-    19,
-    23,
-    32,
-    39,
-    45,
-    52,
-    54,
-    20,
-    22,
-    33,
-    38,
-    46,
-    51,
-    55,
-    60,
-    21,
-    34,
-    37,
-    47,
-    50,
-    56,
-    59,
-    61,
-    35,
-    36,
-    48,
-    49,
-    57,
-    58,
-    62,
-    63,
-];
-
 // ZIGZAG, as a value that a contract can speak of. Take it once, outside of loops: it is copied.
 pub fn zigzag() -> [u8; 64]
     ensures { λ r. ⌜ r ≡ zigzagOrder ⌝ }
 {
     ZIGZAG
-}
-
-// NATURAL_TO_ZIGZAG, likewise.
-pub fn natural_to_zigzag() -> [usize; 64]
-    ensures { λ r. ⌜ r ≡ places ⌝ }
-{
-    NATURAL_TO_ZIGZAG
 }

@@ -1,53 +1,23 @@
 -- `block_access::put_row_12bit` meets its contract. Assumes nothing.
-use Prim.Native.Nat.{_≤_, _-_}
-use mathlib.Core.Path.{_≡_, refl, _∙_, ap}
-use mathlib.Core.List.{map}
+use Prim.Native.Nat.{_-_}
 use native.Mathlib.Omega.{arith}
 use borrow.Author.Needs.{needs}
-use lib.ListN.{length, getD, length-set}
-use lib.IntN.{pos}
-use lib.Seq.{paste, paste-zero}
+use lib.ListN.{length}
 use mir.Syntax.{w64}
-use mir.ValLaws.{toZ-ofZ}
 use Rattle.clamping.specs.Clamping.{sample12bit}
-use Rattle.block.proofs.Store.{store-more}
+use Rattle.block.proofs.Store.{Pasted, pasted-none, pasted-more, pasted-all}
 use Rattle.block_access.proofs.put_row_12bit.Statement.{statement}
 use Rattle.block_access.proofs.put_row_12bit.Tie as tie
 
 abbrev Inv-loop : tie.InvT-loop
-Inv-loop output₀ at q k₀ output k = (k ≤ length q) × (length output ≡ length output₀) × (output ≡ paste output₀ at (map sample12bit q) k)
+Inv-loop output₀ at q k₀ output k = Pasted sample12bit output₀ at q k output
 
 abbrev μ-loop : tie.MeasureT-loop
 μ-loop output₀ at q k₀ output k = length q - k
 
-loop-again : tie.Need-loop-again Inv-loop μ-loop
-loop-again c =
-    let turn = c .before .before .before in
-    let q = turn .before .before .args .q .now in
-    let value = c .sample-12bit .ensures ∙ ap sample12bit (toZ-ofZ w64 (getD q (turn .loop .k) (pos 0)) (record { sfits = c .before .sample-12bit-arg .given })) in
-    (omega arith, simp length-set (turn .loop .inv .1), store-more sample12bit (pos 0) _ _ q _ (turn .loop .inv .2) value (omega arith) (omega arith))
-
-returns : tie.Need-returns Inv-loop μ-loop
-returns c =
-    let s = c .before .before .before in
-    let e : c .before .loop .k ≡ length (s .args .q .now) = omega arith in
-    c .before .loop .inv .2 ∙ ap (paste (s .args .output .now) (s .args .at) (map sample12bit (s .args .q .now))) e
-
 pub put-row-12bit-spec : {M : Type 1} → statement M
 put-row-12bit-spec =
     tie.close
-    (tie.spec
-    Inv-loop
-    μ-loop
-    (λ c. (omega arith, refl, paste-zero _ (c .before .args .at) (map sample12bit (c .before .args .q .now))))
-    (λ c. omega arith)
-    (λ c. omega arith)
-    (λ c κs. search needs)
-    (λ c. omega arith)
-    (λ c. omega arith)
-    (λ c. omega arith)
-    (λ c. omega arith)
-    (λ c. omega arith)
-    loop-again
-    (λ c. c .before .loop .inv .1)
-    returns)
+    (tie.spec Inv-loop μ-loop (λ c. pasted-none) (λ c. omega arith) (λ c. omega arith) (λ c κs. search needs) (λ c. omega arith) (λ c. omega arith) (λ c. omega arith) (λ c. omega arith) (λ c. omega arith)
+    (λ c. pasted-more w64 (c .before .before .before .loop .inv) (omega arith) (omega arith) (c .before .sample-12bit-arg .given) (c .sample-12bit .ensures))
+    (λ c. c .before .loop .inv .long) (λ c. pasted-all (c .before .loop .inv) (omega arith)))

@@ -6,9 +6,9 @@ use native.Mathlib.Omega.{arith}
 use borrow.Author.Needs.{needs}
 use borrow.Author.Tests.{not-true, not-false}
 use lib.ListN.{length}
-use Rattle.coefficient_lines.specs.Text.{accepted, refusal}
-use Rattle.coefficient_lines.proofs.Input.{accepted-only}
-use Rattle.coefficient_text.proofs.Answer.{bad-output, refused, done, written}
+use Rattle.coefficient_text.specs.Text.{accepted, refusedText}
+use Rattle.coefficient_text.proofs.Input.{accepted-only}
+use Rattle.coefficient_text.proofs.Answer.{bad-output, refused-input, done, coded}
 use Rattle.coefficient_text.proofs.coefficient_text.Statement.{statement}
 use Rattle.coefficient_text.proofs.coefficient_text.Tie as tie
 
@@ -16,13 +16,13 @@ returns : tie.Need-returns
 returns c = bad-output _ _ (c .if1 .taken)
 
 returns-2 : tie.Need-returns-2
-unfolding refusal
+unfolding refusedText
 returns-2 c =
     let k = c .before .before in
     let t = k .before .before .before in
     let a = t .before in
     let no = sym (a .is-accepted .ensures) ∙ not-true _ (t .if2 .taken) in
-    refused _ _ (a .before .if1 .left) no (k .copy .ensures .0) (k .copy .ensures .1)
+    refused-input _ _ (a .before .if1 .left) no (k .copy .ensures .0) (k .copy .ensures .1)
 
 -- past the test of the input
 yes : (c : tie.Else2) → accepted (c .before .before .before .before .before .args .input .now) ≡ true
@@ -44,7 +44,7 @@ returns-3 c =
     let p = c .before .before in
     let f = p .before .before .before .before in
     let t = f .before .before .before .before in
-    let cs = written (t .before .before .before .before .before .args .input .now) (long t) (f .fdct-quantize .ensures) in
+    let cs = coded (t .before .before .before .before .before .args .input .now) (long t) (f .fdct-quantize .ensures) in
     done _ _ (t .before .before .if1 .left) (yes t) cs (p .put-numbers .ensures)
 
 pub coefficient-text-spec : {M : Type 1} → statement M

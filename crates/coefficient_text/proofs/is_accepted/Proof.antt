@@ -4,8 +4,8 @@ use native.Mathlib.Omega.{arith}
 use borrow.Author.Needs.{needs}
 use borrow.Author.Tests.{eq-eqb, ne-eqb}
 use lib.Seq.{length-take-le}
-use Rattle.coefficient_lines.specs.Text.{accepted, same, header}
-use Rattle.coefficient_lines.proofs.Input.{decided}
+use Rattle.coefficient_text.specs.Text.{accepted, same, header}
+use Rattle.coefficient_text.proofs.Input.{decided}
 use Rattle.coefficient_text.proofs.is_accepted.Statement.{statement}
 use Rattle.coefficient_text.proofs.is_accepted.Tie as tie
 

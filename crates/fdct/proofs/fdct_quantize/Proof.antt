@@ -1,11 +1,11 @@
 -- `fdct::fdct_quantize` meets its contract. Assumes nothing.
-use mathlib.Core.Path.{_∙_}
+use mathlib.Core.Path.{refl, _∙_}
 use borrow.Author.Needs.{needs}
 use native.Mathlib.Omega.{arith}
 use Rattle.lists.specs.Tab.{tab}
 use Rattle.forward.specs.Forward.{quantizedSum}
 use Rattle.forward.proofs.Canonical.{block-coefficients}
-use Rattle.refusals.proofs.Refusals.{bad-block, bad-quant, bad-output, done}
+use Rattle.refusals.proofs.Refusals.{has, lacks, _then_, refused, accepted}
 use Rattle.fdct.proofs.fdct_quantize.Statement.{statement}
 use Rattle.fdct.proofs.fdct_quantize.Tie as tie
 
@@ -21,15 +21,15 @@ returns-4 c =
     let shift = wider .before in
     let t = shift .before in
     let written = w .write-coefficients .ensures ∙ (λ i. tab 64 (quantizedSum (shift .level-shift .ensures .0 i) (wider .widen .ensures i))) ∙ block-coefficients _ _ in
-    done _ _ _ _ (t .before .before .if1 .left) (t .before .if2 .left) (t .if3 .left) written
+    accepted _ _ _ (has (t .before .before .if1 .left) then has (t .before .if2 .left) then has (t .if3 .left) then tt) written
 
 pub fdct-quantize-spec : {M : Type 1} → statement M
 fdct-quantize-spec =
     tie.close
     (tie.spec
-    (λ c. bad-block _ _ _ _ (c .if1 .taken))
-    (λ c. bad-quant _ _ _ _ (c .before .if1 .left) (c .if2 .taken))
-    (λ c. bad-output _ _ _ _ (c .before .before .if1 .left) (c .before .if2 .left) (c .if3 .taken))
+    (λ c. refused _ _ _ 0 (lacks (c .if1 .taken) then tt))
+    (λ c. refused _ _ _ 1 (has (c .before .if1 .left) then lacks (c .if2 .taken) then tt))
+    (λ c. refused _ _ _ 2 (has (c .before .before .if1 .left) then has (c .before .if2 .left) then lacks (c .if3 .taken) then tt))
     (λ c κs. search needs)
     (λ c κs. search needs)
     write-coefficients-requires

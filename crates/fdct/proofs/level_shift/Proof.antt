@@ -27,7 +27,7 @@ abbrev μ-loop : tie.MeasureT-loop
 loop-again : tie.Need-loop-again Inv-loop μ-loop
 loop-again c =
     let l = c .before .before .before .loop in
-    let r = c .centred in
+    let r = c .level-shifted in
     let value = toZ-ofZ w16 (r .result) (small-fits w16 (r .result) (omega (arith, r .ensures .1))) ∙ r .ensures .0 in
     (omega arith, more _ 64 _ _ _ _ (l .inv .1) (omega arith) refl value, below-more _ _ (l .inv .2) (subst (λ (z : ℤ). natAbs z ≤ 128) (r .ensures .0) (r .ensures .1)))
 

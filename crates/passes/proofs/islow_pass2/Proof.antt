@@ -1,16 +1,10 @@
 -- `passes::islow_pass2` meets its contract. Assumes nothing.
 use borrow.Author.Needs.{needs}
-use mathlib.Core.Path.{ap, _∙_}
-use mathlib.Core.List.{map}
 use mir.Syntax.{w32}
-use Rattle.scaling.specs.Scaling.{descaled}
-use Rattle.passes.specs.Passes.{pass}
+use Rattle.gains.specs.Gains.{gains}
+use Rattle.passes.proofs.Steps.{passed}
 use Rattle.passes.proofs.islow_pass2.Statement.{statement}
 use Rattle.passes.proofs.islow_pass2.Tie as tie
 
-returns : tie.Need-returns
-unfolding pass
-returns c = c .descale-8 .ensures ∙ ap (map (λ v. descaled w32 v 18)) (c .before .islow-1d .ensures)
-
 pub islow-pass2-spec : {M : Type 1} → statement M
-islow-pass2-spec = tie.close (tie.spec (λ _ _. tt) (λ c κs. search needs) returns)
+islow-pass2-spec = tie.close (tie.spec (λ _ _. tt) (λ c κs. search needs) (λ c. passed w32 gains 18 _ (c .before .islow-1d .ensures) (c .descale-8 .ensures)))

@@ -37,7 +37,7 @@ cast-quotient c = record { sfits = quotient-fits (c .unsigned-abs .result) (c .b
 sub-result : tie.Need-sub-result
 sub-result c = negated-fits ((let s = c .before in quotient-fits (s .unsigned-abs .result) (s .before .divisor .result) (bound s) (divides s .0) (divides s .1)))
 
--- the quotient is the size of the coefficient
+-- the quotient is the absolute value of the coefficient
 steps : (c : tie.After-unsigned-abs) →
     (c .unsigned-abs .result + c .before .divisor .result * 2 ^ 31) / 2 ^ 32 / c .before .divisor .result
     ≡ rounded (natAbs (c .before .before .args .scaled)) (divisorOf (c .before .before .args .quantizer) * 2 ^ 32)

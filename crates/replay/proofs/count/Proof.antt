@@ -7,10 +7,10 @@ use Rattle.replay.proofs.count.Statement.{statement}
 use Rattle.replay.proofs.count.Tie as tie
 
 abbrev Inv-loop : tie.InvT-loop
-Inv-loop name fd function size cases₀ differences₀ cases differences = (differences ≤ cases) × (cases ≤ 1000000)
+Inv-loop name fd function cases₀ differences₀ cases differences = (differences ≤ cases) × (cases ≤ 1000000)
 
 abbrev μ-loop : tie.MeasureT-loop
-μ-loop name fd function size cases₀ differences₀ cases differences = 1000000 - cases
+μ-loop name fd function cases₀ differences₀ cases differences = 1000000 - cases
 
 -- by either arm that goes on
 loop-again : tie.Need-loop-again Inv-loop μ-loop

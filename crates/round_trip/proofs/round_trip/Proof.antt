@@ -1,75 +1,84 @@
 -- `round_trip::round_trip` meets its contract. Assumes nothing.
-use Prim.Native.Nat.{ℕ}
-use mathlib.Core.Path.{_≡_, sym, subst, _∙_}
-use mathlib.Core.List.{List}
-use lib.ListN.{getD, length-replicate}
-use lib.IntN.{ℤ, pos}
-use mir.Syntax.{w16}
-use mir.Val.{SFits}
-use borrow.Author.Needs.{needs}
+use mathlib.Core.Path.{_≡_, sym, ap, subst, _∙_}
 use native.Mathlib.Omega.{arith}
-use Rattle.lists.specs.Tab.{tab}
-use Rattle.lists.proofs.Tab.{tab-getD}
-use Rattle.bounds.specs.Demand3.{products}
-use Rattle.bounds.proofs.Near.{narrow}
-use Rattle.refusals.proofs.Refusals.{accepted-writes}
-use Rattle.bounds.proofs.Returned.{returned, length-products, trip-refused, trip-block, trip-quant, trip-coefficients, trip-products, trip-samples, trip-done}
+use borrow.Author.Needs.{needs}
+use lib.ListN.{length}
+use Rattle.integers.specs.Fits16.{Fits16}
+use Rattle.lists.specs.Every.{Every}
+use Rattle.bounds.specs.Demand3.{Bytes, products}
+use Rattle.bounds.proofs.Theorem.{demand-3}
+use Rattle.bounds.proofs.Calls.{length-products, lengths, coded, multiplied, inverted, compared, all-refused, all-done}
 use Rattle.round_trip.proofs.round_trip.Statement.{statement}
 use Rattle.round_trip.proofs.round_trip.Tie as tie
 
--- the products, before they are narrowed
-wide : (c : tie.After-dequantize) →
-    (let t1 = c .before .before .before .before .before .before .before .before .before .before in
-    let s = t1 .before .before .before .before in
-    c .dequantize .last .1 .1 .0 ≡ products (s .args .block .now) (s .args .quant .now))
-wide c =
-    let code = c .before .before .before .before in
-    let t3 = code .before .before .before .before in
-    let lq = t3 .before .if2 .left in
-    returned _ _ _ (accepted-writes _ _ _ _ (t3 .before .before .if1 .left) lq (t3 .if3 .left) (code .fdct-quantize .ensures)) (c .dequantize .ensures) lq (length-replicate 64 (pos 0))
+-- "any 64 samples 0..255", "any 64 quantizers 0..255": past the tests of lengths
+bytes-a : (c : tie.Else1) → Bytes (c .before .before .before .before .before .before .before .args .a .now)
+bytes-a c =
+    let known = c .before .before .before .before .before .before in
+    record { long = lengths _ _ _ _ _ _ _ _ _ (c .before .lengths-status .ensures) (c .if1 .left) .0; most = λ i. omega (arith, known .shared-slice-known .given i) }
 
--- the bytes of the table and of the block
-narrowed : (c : tie.After-dequantize) (n : ℕ) → SFits w16 (getD (c .dequantize .last .1 .1 .0) n (pos 0))
-narrowed c n =
-    let t1 = c .before .before .before .before .before .before .before .before .before .before in
-    subst (λ (l : List ℤ). SFits w16 (getD l n (pos 0))) (sym (wide c))
-    (narrow _ _ (λ i. omega (arith, t1 .before .before .shared-slice-known2 .given i)) (λ i. omega (arith, t1 .before .before .before .shared-slice-known .given i)) n)
+bytes-b : (c : tie.Else1) → Bytes (c .before .before .before .before .before .before .before .args .b .now)
+bytes-b c =
+    let known = c .before .before .before .before .before in
+    record { long = lengths _ _ _ _ _ _ _ _ _ (c .before .lengths-status .ensures) (c .if1 .left) .1; most = λ i. omega (arith, known .shared-slice-known2 .given i) }
 
-returns-6 : tie.Need-returns-6
-returns-6 c =
-    let inverse = c .before .before in
-    let narrows = inverse .before .before .before .before in
-    let multiply = narrows .before .before .before .before in
-    let code = multiply .before .before .before .before in
-    let t5 = code .before .before in
-    let t4 = t5 .before in
-    let t3 = t4 .before in
-    let t2 = t3 .before in
-    let t1 = t2 .before in
-    let s = t1 .before .before .before .before in
-    let ps = products (s .args .block .now) (s .args .quant .now) in
-    trip-done _ _ _ _ _ (t1 .if1 .left) (t2 .if2 .left) (t3 .if3 .left) (t4 .if4 .left) (t5 .if5 .left)
-    (λ i. omega (arith, t1 .before .before .shared-slice-known2 .given i)) (λ i. omega (arith, t1 .before .before .before .shared-slice-known .given i))
-    (accepted-writes _ _ _ _ (t1 .if1 .left) (t2 .if2 .left) (t3 .if3 .left) (code .fdct-quantize .ensures))
-    (narrows .narrow-all .ensures ∙ (λ i. tab 64 (λ n. getD (wide multiply i) n (pos 0))) ∙ tab-getD (pos 0) ps 64 (length-products (s .args .block .now) (s .args .quant .now)))
-    (inverse .islow-block .ensures .0)
-    (inverse .islow-block .ensures .1)
+bytes-quant : (c : tie.Else1) → Bytes (c .before .before .before .before .before .before .before .args .quant .now)
+bytes-quant c =
+    let known = c .before .before .before .before in
+    record { long = lengths _ _ _ _ _ _ _ _ _ (c .before .lengths-status .ensures) (c .if1 .left) .2; most = λ i. omega (arith, known .shared-slice-known3 .given i) }
+
+-- the 32-bit products
+multiply : (c : tie.After-dequantize) →
+    (let s = c .before .before .before .before .before .before .before .before .before .before .before .before .before .before .before .before in
+    c .dequantize .last .1 .1 .0 ≡ products (s .args .a .now) (s .args .quant .now))
+multiply c =
+    let code = c .before .before .before .before .before .before .before in
+    let tested = code .before .before in
+    let long = lengths _ _ _ _ _ _ _ _ _ (tested .before .lengths-status .ensures) (tested .if1 .left) in
+    multiplied _ _ _ (coded _ _ _ (long .0) (long .2) (long .3) (code .fdct-quantize .ensures)) (long .2) (long .7) (c .dequantize .ensures)
+
+write-i16-requires : tie.Need-write-i16-requires
+write-i16-requires c κs =
+    let made = c .before .before .before in
+    let tested = made .before .before .before .before .before .before .before .before .before in
+    let long = lengths _ _ _ _ _ _ _ _ _ (tested .before .lengths-status .ensures) (tested .if1 .left) in
+    let is = multiply made in
+    (subst (Every Fits16) (sym is) (demand-3 _ (bytes-quant tested) .1 _ (bytes-a tested) .0), (ap length is ∙ length-products _ _, long .5))
+
+returns-2 : tie.Need-returns-2
+returns-2 c =
+    let back-i32 = c .before .before .before .before .before in
+    let back = back-i32 .before .before .before .before .before in
+    let put = back .before .before .before .before in
+    let made = put .before .before .before .before in
+    let code-b = made .before .before .before .before in
+    let code-a = code-b .before .before .before in
+    let tested = code-a .before .before in
+    let long = lengths _ _ _ _ _ _ _ _ _ (tested .before .lengths-status .ensures) (tested .if1 .left) in
+    let ca = coded _ _ _ (long .0) (long .2) (long .3) (code-a .fdct-quantize .ensures) in
+    let cb = coded _ _ _ (long .1) (long .2) (long .4) (code-b .fdct-quantize2 .ensures) in
+    let q = multiply made in
+    let p = put .write-i16 .ensures ∙ q in
+    all-done _ _ _ _ _ _ _ _ _ _ (tested .before .lengths-status .ensures) (tested .if1 .left) (bytes-quant tested) (bytes-a tested) (bytes-b tested) (compared _ _ _ ca cb (c .same .ensures))
+    ca cb p (inverted _ _ _ p (long .6) (back .islow-block .ensures)) q (inverted _ _ _ q (long .8) (back-i32 .islow-block-i32 .ensures))
 
 pub round-trip-spec : {M : Type 1} → statement M
 round-trip-spec =
     tie.close
     (tie.spec
-    (λ c. trip-refused _ _ _ _ _ 0 (trip-block _ _ _ _ _ (c .if1 .taken)))
-    (λ c. trip-refused _ _ _ _ _ 1 (trip-quant _ _ _ _ _ (c .before .if1 .left) (c .if2 .taken)))
-    (λ c. trip-refused _ _ _ _ _ 2 (trip-coefficients _ _ _ _ _ (c .before .before .if1 .left) (c .before .if2 .left) (c .if3 .taken)))
-    (λ c. trip-refused _ _ _ _ _ 2 (trip-products _ _ _ _ _ (c .before .before .before .if1 .left) (c .before .before .if2 .left) (c .before .if3 .left) (c .if4 .taken)))
-    (λ c. trip-refused _ _ _ _ _ 2 (trip-samples _ _ _ _ _ (c .before .before .before .before .if1 .left) (c .before .before .before .if2 .left) (c .before .before .if3 .left) (c .before .if4 .left) (c .if5 .taken)))
+    (λ c κs. search needs)
+    (λ c. all-refused _ _ _ _ _ _ _ _ _ _ (c .before .lengths-status .ensures) (c .if1 .taken))
+    (λ c κs. search needs)
+    (λ c κs. search needs)
+    (λ c κs. search needs)
+    write-i16-requires
+    (λ c κs. search needs)
+    (λ c κs. search needs)
     (λ c κs. search needs)
     (λ c. search needs)
-    (λ c κs. search needs)
-    (λ c κs. (narrowed (c .before .before .before), c .before .before .before .before .before .before .before .before .before .before .if4 .left))
-    (λ c κs. search needs)
     (λ c. search needs)
     (λ c. search needs)
     (λ c. search needs)
-    returns-6)
+    (λ c. search needs)
+    (λ c. search needs)
+    returns-2)

@@ -1,7 +1,7 @@
 -- `scaling::descale` meets its contract. Assumes nothing.
 use mir.Syntax.{w32}
 use mir.Facts.{toZ-ofZ}
-use Rattle.scaling.proofs.Rounding.{descaled-read, too-low, too-high, taken}
+use Rattle.scaling.proofs.Rounding.{descaled-read, too-low, too-high, taken, scaled}
 use Rattle.scaling.proofs.descale.Statement.{statement}
 use Rattle.scaling.proofs.descale.Tie as tie
 
@@ -14,4 +14,4 @@ descale-spec =
     (λ c. taken (c .before .before .args .value) (toZ-ofZ (c .before .before .fits .shift)) (c .before .if1 .left) (c .if2 .left) .0)
     (λ c κs. taken (c .before .before .args .value) (toZ-ofZ (c .before .before .fits .shift)) (c .before .if1 .left) (c .if2 .left) .1)
     (λ c. let s = c .before .before .before in
-    rw (descaled-read w32 _ (s .fits .value) (c .descale-i32 .ensures)) (taken (s .args .value) (toZ-ofZ (s .fits .shift)) (c .before .before .if1 .left) (c .before .if2 .left) .2)))
+    rw (descaled-read w32 _ (s .fits .value) (c .descale-i32 .ensures)) (scaled (s .args .value) (toZ-ofZ (s .fits .shift)) (c .before .before .if1 .left) (c .before .if2 .left))))

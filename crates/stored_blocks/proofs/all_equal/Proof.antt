@@ -10,7 +10,7 @@ use mir.ValLaws.{toZ-ofZ}
 use Rattle.integers.specs.Equal.{eqZ}
 use Rattle.lists.specs.Below.{below}
 use Rattle.lists.proofs.Below.{below-next, below-all}
-use Rattle.stored_coefficients.specs.Stored.{sameBlocks}
+use Rattle.stored_blocks.specs.Stored.{sameBlocks}
 use Rattle.stored_blocks.proofs.all_equal.Statement.{statement}
 use Rattle.stored_blocks.proofs.all_equal.Tie as tie
 

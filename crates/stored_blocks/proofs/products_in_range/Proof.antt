@@ -12,8 +12,8 @@ use mir.ValLaws.{toZ-ofZ}
 use Rattle.lists.specs.Below.{below}
 use Rattle.lists.proofs.Below.{below-next, below-all}
 use Rattle.quantize.specs.Quantize.{divisorOf}
-use Rattle.stored_coefficients.specs.Dequantize.{product}
-use Rattle.stored_coefficients.specs.Stored.{inRange, screened}
+use Rattle.stored_blocks.specs.Dequantize.{product}
+use Rattle.stored_blocks.specs.Stored.{inRange, screened}
 use Rattle.stored_blocks.proofs.products_in_range.Statement.{statement}
 use Rattle.stored_blocks.proofs.products_in_range.Tie as tie
 

@@ -1,6 +1,8 @@
 -- `stored_blocks::same` meets its contract. Assumes nothing.
+use mathlib.Core.Path.{refl}
 use borrow.Author.Needs.{needs}
-use Rattle.stored_coefficients.proofs.Entries.{same-bad-first, same-bad-second, same-done}
+use Rattle.refusals.proofs.Refusals.{has, lacks, _then_, refused, accepted}
+use Rattle.stored_blocks.proofs.Entries.{same-answers}
 use Rattle.stored_blocks.proofs.same.Statement.{statement}
 use Rattle.stored_blocks.proofs.same.Tie as tie
 
@@ -8,7 +10,7 @@ pub same-spec : {M : Type 1} → statement M
 same-spec =
     tie.close
     (tie.spec
-    (λ c. same-bad-first _ _ (c .if1 .taken))
-    (λ c. same-bad-second _ _ (c .before .if1 .left) (c .if2 .taken))
+    (λ c. same-answers _ _ (refused _ _ _ 0 (lacks (c .if1 .taken) then tt)))
+    (λ c. same-answers _ _ (refused _ _ _ 1 (has (c .before .if1 .left) then lacks (c .if2 .taken) then tt)))
     (λ c κs. search needs)
-    (λ c. same-done _ _ (c .before .before .if1 .left) (c .before .if2 .left) (c .all-equal .ensures)))
+    (λ c. same-answers _ _ (accepted _ _ _ (has (c .before .before .if1 .left) then has (c .before .if2 .left) then tt) (c .all-equal .ensures))))

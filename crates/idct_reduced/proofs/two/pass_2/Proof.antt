@@ -6,8 +6,8 @@ use mir.Syntax.{w32}
 use Rattle.lists.specs.Tab.{tab}
 use Rattle.gains.specs.Gains.{gains2}
 use Rattle.scaling.proofs.Rounding.{descaled-read}
-use Rattle.block.proofs.Rows.{two-rows}
-use Rattle.block.proofs.Reduced.{pass-read}
+use Rattle.passes.proofs.Steps.{two-rows}
+use Rattle.block.proofs.Steps.{pass-read}
 use Rattle.idct_reduced.proofs.two.pass_2.Statement.{statement}
 use Rattle.idct_reduced.proofs.two.pass_2.Tie as tie
 
@@ -21,12 +21,4 @@ returns c =
     (λ i. x0 i ∷ x1 i ∷ []) ∙ pass-read w32 gains2 two-rows s _ _ (call .islow-1d-2 .ensures)
 
 pub pass-2-spec : {M : Type 1} → statement M
-pass-2-spec =
-    tie.close
-    (tie.spec
-    (λ c κs. search needs)
-    (λ c. search needs)
-    (λ c κs. search needs)
-    (λ c. search needs)
-    (λ c κs. search needs)
-    returns)
+pass-2-spec = tie.close (tie.spec (λ c κs. search needs) (λ c. search needs) (λ c κs. search needs) (λ c. search needs) (λ c κs. search needs) returns)

@@ -1,15 +1,17 @@
 -- `idct_reduced::two::rows_2` meets its contract. Assumes nothing.
-use Prim.Native.Nat.{_≤_, _-_}
+use Prim.Native.Nat.{_-_}
+use mathlib.Core.Path.{refl}
 use native.Mathlib.Omega.{arith}
 use borrow.Author.Needs.{needs}
 use Rattle.clamping.specs.Clamping.{sampleU8}
 use Rattle.passes.specs.Passes.{two, rowPass}
-use Rattle.block.proofs.Rows.{Stored, rows-none, rows-turn, rows-all, two-rows}
+use Rattle.passes.proofs.Steps.{length-row, two-rows}
+use Rattle.block.proofs.Rows.{Stored, rows-none, rows-turn, rows-all}
 use Rattle.idct_reduced.proofs.two.rows_2.Statement.{statement}
 use Rattle.idct_reduced.proofs.two.rows_2.Tie as tie
 
 abbrev Inv-loop : tie.InvT-loop
-Inv-loop w output₀ y₀ output y = (y ≤ 2) × Stored (rowPass two) sampleU8 2 w y output
+Inv-loop w output₀ y₀ output y = Stored (rowPass two) sampleU8 2 w y output
 
 abbrev μ-loop : tie.MeasureT-loop
 μ-loop w output₀ y₀ output y = 2 - y
@@ -18,20 +20,10 @@ loop-again : tie.Need-loop-again Inv-loop μ-loop
 unfolding two
 loop-again c =
     let call = c .before .before in
-    let turn = call .before .before .before .before in
-    (omega arith, rows-turn two two-rows (turn .before .before .args .w .now) (turn .loop .y) (turn .loop .output) (turn .loop .inv .1) (omega arith) (call .before .load-row-2 .ensures) (call .row-2 .ensures))
+    rows-turn (call .before .before .before .before .loop .inv) (omega arith) (call .before .load-row-2 .ensures) refl (length-row two _ two-rows) refl (call .row-2 .ensures)
 
 pub rows-2-spec : {M : Type 1} → statement M
 rows-2-spec =
     tie.close
-    (tie.spec
-    Inv-loop
-    μ-loop
-    (λ c. (omega arith, rows-none (rowPass two) sampleU8 2 (c .before .args .w .now) _ (c .before .pre)))
-    (λ c κs. search needs)
-    (λ c κs. search needs)
-    (λ c. omega arith)
-    (λ c. omega arith)
-    loop-again
-    (λ c. omega arith)
-    (λ c. rows-all (rowPass two) sampleU8 2 _ _ _ (c .before .loop .inv .1) (omega arith) (omega arith)))
+    (tie.spec Inv-loop μ-loop (λ c. rows-none (c .before .pre)) (λ c κs. search needs) (λ c κs. search needs) (λ c. omega arith) (λ c. omega arith) loop-again (λ c. omega arith)
+    (λ c. rows-all (c .before .loop .inv) (omega arith)))

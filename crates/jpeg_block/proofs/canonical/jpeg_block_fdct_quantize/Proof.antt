@@ -1,4 +1,4 @@
--- `jpeg_block::jpeg_block_fdct_quantize` meets its contract, which is that of `fdct_quantize`. Assumes nothing.
+-- `jpeg_block::canonical::jpeg_block_fdct_quantize` meets its contract, which is that of `fdct_quantize`. Assumes nothing.
 use borrow.Author.Needs.{needs}
 use Rattle.jpeg_block.proofs.canonical.jpeg_block_fdct_quantize.Statement.{statement}
 use Rattle.jpeg_block.proofs.canonical.jpeg_block_fdct_quantize.Tie as tie

@@ -1,4 +1,4 @@
--- `jpeg_block::jpeg_block_quantization_divisors` meets its contract, which is that of `quantization_divisors_into`. Assumes nothing.
+-- `jpeg_block::guarded::jpeg_block_quantization_divisors` meets its contract, which is that of `quantization_divisors_into`. Assumes nothing.
 use borrow.Author.Needs.{needs}
 use Rattle.jpeg_block.proofs.guarded.jpeg_block_quantization_divisors.Statement.{statement}
 use Rattle.jpeg_block.proofs.guarded.jpeg_block_quantization_divisors.Tie as tie

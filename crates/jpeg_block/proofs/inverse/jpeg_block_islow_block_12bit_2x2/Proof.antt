@@ -1,4 +1,4 @@
--- `jpeg_block::jpeg_block_islow_block_12bit_2x2` meets its contract, which is that of `islow_block_12bit_2x2`. Assumes nothing.
+-- `jpeg_block::inverse::jpeg_block_islow_block_12bit_2x2` meets its contract, which is that of `islow_block_12bit_2x2`. Assumes nothing.
 use borrow.Author.Needs.{needs}
 use Rattle.jpeg_block.proofs.inverse.jpeg_block_islow_block_12bit_2x2.Statement.{statement}
 use Rattle.jpeg_block.proofs.inverse.jpeg_block_islow_block_12bit_2x2.Tie as tie

@@ -1,4 +1,4 @@
--- `jpeg_block::jpeg_block_islow_block_i32` meets its contract, which is that of `islow_block_i32`. Assumes nothing.
+-- `jpeg_block::inverse_i32::jpeg_block_islow_block_i32` meets its contract, which is that of `islow_block_i32`. Assumes nothing.
 use borrow.Author.Needs.{needs}
 use Rattle.jpeg_block.proofs.inverse_i32.jpeg_block_islow_block_i32.Statement.{statement}
 use Rattle.jpeg_block.proofs.inverse_i32.jpeg_block_islow_block_i32.Tie as tie

@@ -1,4 +1,4 @@
--- `jpeg_block::jpeg_block_dequantize` meets its contract, which is that of `dequantize`. Assumes nothing.
+-- `jpeg_block::stored::jpeg_block_dequantize` meets its contract, which is that of `dequantize`. Assumes nothing.
 use borrow.Author.Needs.{needs}
 use Rattle.jpeg_block.proofs.stored.jpeg_block_dequantize.Statement.{statement}
 use Rattle.jpeg_block.proofs.stored.jpeg_block_dequantize.Tie as tie

@@ -1,8 +1,0 @@
--- `bounds_room::near::size` is safe: 32 bits fit 64. Assumes nothing.
-use borrow.Author.Needs.{needs}
-use mir.Facts.{sfits-widen, sfits-toZ, fits-ofZ}
-use Rattle.bounds_room.proofs.near.size.Statement.{statement}
-use Rattle.bounds_room.proofs.near.size.Tie as tie
-
-pub size-spec : {M : Type 1} → statement M
-size-spec = tie.close (tie.spec (λ c. sfits-widen tt (sfits-toZ (fits-ofZ (c .fits .entry)))) (λ c κs. search needs) (λ c. search needs))

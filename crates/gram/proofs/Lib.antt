@@ -1,5 +1,0 @@
-pub mod Orthogonal
-pub mod Basis
-pub mod Rounding
-pub mod Reconstruction
-pub mod Equal

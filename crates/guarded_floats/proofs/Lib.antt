@@ -1,5 +1,0 @@
-pub mod Values
-pub mod Zero
-pub mod Table
-pub mod Divisors
-pub mod Made

@@ -1,0 +1,26 @@
+-- `idct_8x8::row_pass::load_row_as_i16` meets its contract. Assumes nothing.
+use Prim.Native.Nat.{_-_}
+use mathlib.Core.Path.{refl}
+use mathlib.Core.List.{[]}
+use native.Mathlib.Omega.{arith}
+use lib.ListN.{getD}
+use lib.IntN.{pos}
+use Rattle.integers.proofs.Fits16.{fits16-local, fits16-back}
+use Rattle.lists.proofs.Tab.{Filled, none, next, filled}
+use Rattle.block.specs.Block.{rowOf}
+use Rattle.idct_8x8.proofs.Fit.{entry-fits}
+use Rattle.idct_8x8.proofs.row_pass.load_row_as_i16.Statement.{statement}
+use Rattle.idct_8x8.proofs.row_pass.load_row_as_i16.Tie as tie
+
+abbrev Inv-loop : tie.InvT-loop
+Inv-loop w y p₀ u₀ p u = Filled (λ k. getD (getD w k []) y (pos 0)) 8 u p
+
+abbrev μ-loop : tie.MeasureT-loop
+μ-loop w y p₀ u₀ p u = 8 - u
+
+pub load-row-as-i16-spec : {M : Type 1} → statement M
+unfolding rowOf
+load-row-as-i16-spec =
+    tie.close
+    (tie.spec Inv-loop μ-loop (λ c. none _ 8 _ refl) (λ c. omega arith) (λ c. omega arith) (λ c. omega arith) (λ c. omega arith) (λ c κs. fits16-local (entry-fits (c .before .before .before .pre .1) _ _)) (λ c. omega arith) (λ c. omega arith) (λ c. omega arith) (λ c. omega arith)
+    (λ c. next (c .before .before .before .loop .inv) (omega arith) (fits16-back (entry-fits (c .before .before .before .before .pre .1) _ _) (c .as-i16 .ensures))) (λ c. filled (c .before .loop .inv) (omega arith)))

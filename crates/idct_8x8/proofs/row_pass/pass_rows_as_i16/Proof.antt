@@ -1,0 +1,25 @@
+-- `idct_8x8::row_pass::pass_rows_as_i16` meets its contract. Assumes nothing.
+use Prim.Native.Nat.{_-_}
+use mathlib.Core.Path.{refl}
+use native.Mathlib.Omega.{arith}
+use borrow.Author.Needs.{needs}
+use Rattle.lists.proofs.Tab.{Filled, none, next, filled}
+use Rattle.passes.specs.Passes.{eight, rowPass}
+use Rattle.block.specs.Block.{rowOf}
+use Rattle.idct_8x8.proofs.Fit.{row-fits}
+use Rattle.idct_8x8.proofs.row_pass.pass_rows_as_i16.Statement.{statement}
+use Rattle.idct_8x8.proofs.row_pass.pass_rows_as_i16.Tie as tie
+
+abbrev Inv-loop : tie.InvT-loop
+Inv-loop w r₀ y₀ r y = Filled (λ k. rowPass eight (rowOf w k)) 8 y r
+
+abbrev μ-loop : tie.MeasureT-loop
+μ-loop w r₀ y₀ r y = 8 - y
+
+loop-again : tie.Need-loop-again Inv-loop μ-loop
+loop-again c = let load = c .before .before in let turn = load .before .before in next (turn .loop .inv) (omega arith) (row-fits _ (turn .before .pre) (turn .loop .y) (load .load-row-as-i16 .ensures) (c .before .islow-1d-direct .ensures) (c .descale-8 .ensures))
+
+pub pass-rows-as-i16-spec : {M : Type 1} → statement M
+pass-rows-as-i16-spec =
+    tie.close
+    (tie.spec Inv-loop μ-loop (λ c. none _ 8 _ refl) (λ c κs. (omega arith, c .before .before .pre)) (λ c κs. search needs) (λ c κs. search needs) (λ c. omega arith) (λ c. omega arith) (λ c. omega arith) (λ c. omega arith) loop-again (λ c. filled (c .before .loop .inv) (omega arith)))

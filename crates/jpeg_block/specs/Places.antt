@@ -1,0 +1,26 @@
+-- Answers that the entries hold by value, laid out for C: the status is returned, and each value goes to a lent place. Document 01 has no
+-- length for these places, nor for divisors in a slice. So they are tested last, and a call that the entry refuses has the entry's
+-- number here too.
+use mathlib.Core.Bool.{Bool, cond}
+use mathlib.Core.List.{List, [], _∷_}
+use Prim.Native.Nat.{ℕ}
+use lib.Dec.{eqb}
+use lib.Ieee.{Float}
+use Rattle.refusals.specs.Refusals.{Test, _unless_, _of_}
+use Rattle.guarded_quantizer.specs.Divisors.{zeroDivisors}
+
+-- 3, a place not of one number
+abbrev pub placeTests : {A : Type 0} → List A → List Test
+placeTests place = 3 unless place of 1 ∷ []
+
+-- a flag as a number
+unfoldable pub flag : Bool → ℕ
+flag answer = cond answer 1 0
+
+-- the guarded quantizer, by the lengths: 2, divisors not of 64; 3, a place of the wrong length
+unfoldable pub recordTests : ℕ → ℕ → ℕ → ℕ → List Test
+recordTests reciprocals dc ac bitmap = 2 unless eqb reciprocals 64 ∷ 3 unless eqb dc 1 ∷ 3 unless eqb ac 64 ∷ 3 unless eqb bitmap 1 ∷ []
+
+-- the divisors by value; 64 zeros for such as are not 64, which the call refuses
+unfoldable pub handed : List Float → List Float
+handed reciprocals = cond (reciprocals of 64) reciprocals zeroDivisors

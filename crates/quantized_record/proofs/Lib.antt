@@ -1,4 +1,0 @@
-pub mod Bits
-pub mod Bitmap
-pub mod Order
-pub mod Record

@@ -1,2 +1,0 @@
-pub mod Bitmap
-pub mod Record
