@@ -1,3 +1,4 @@
 pub mod Tab
 pub mod Below
 pub mod Every
+pub mod Grid
