@@ -10,7 +10,7 @@ use crate::islow_cases;
 use crate::scaling_cases;
 use crate::wrapping_cases;
 
-// The function's answer for a record's inputs.
+// The function's answer for a record's inputs. Number 41, deliberately_wrong, is islow_block again.
 pub fn answer(function: usize, case: &[u8; ROOM]) -> Answer {
     match function {
         0 | 1 | 2 => crate::wrapping_cases::wrapped(function, case),

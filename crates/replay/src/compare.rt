@@ -3,13 +3,19 @@
 ghost use mathlib.Core.Path.{_≡_};
 ghost use mathlib.Core.Bool.{true};
 ghost use Rattle.replay.specs.Agrees.{Agrees};
-use crate::decode::ROOM;
+use crate::decode::Part;
+use crate::encode::Answer;
 
-pub fn agrees(status: u32, recorded: &[u8; ROOM], given: &[u8; ROOM]) -> bool
-    ensures { λ r. ⌜ (r ≡ true → Agrees status (now (recorded .entry)) (now (given .entry))) × (Agrees status (now (recorded .entry)) (now (given .entry)) → r ≡ true) ⌝ }
+pub fn agrees(recorded: Part, answer: Answer) -> bool
+    ensures { λ r. ⌜ (r ≡ true → Agrees recorded answer) × (Agrees recorded answer → r ≡ true) ⌝ }
 {
-    if status != 0 {
+    if answer.status != 0 {
         return false;
     }
-    check::same(recorded, given)
+    if recorded.got != answer.size {
+        return false;
+    }
+    let expected = recorded.bytes;
+    let given = answer.bytes;
+    check::same(&expected, &given)
 }

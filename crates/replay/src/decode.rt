@@ -3,8 +3,14 @@ ghost use mathlib.Core.Path.{_≡_};
 ghost use Prim.Native.Nat.{_+_, _≤_};
 ghost use lib.ListN.{length};
 
-// The inputs of a record are read into so many bytes, and its answer into as many. Those that it does not fill are 0.
+// No part of a record, its inputs or its answer, has more bytes.
 pub const ROOM: usize = 640;
+
+// A part of a record as it was read: a room that is 0 past it, and how many bytes were there.
+pub struct Part {
+    pub bytes: [u8; ROOM],
+    pub got: usize,
+}
 
 pub fn wide(byte: u8) -> u64
     ensures { λ r. ⌜ r ≤ 255 ⌝ }

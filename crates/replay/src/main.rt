@@ -11,8 +11,8 @@ mod islow_cases;
 mod scaling_cases;
 mod wrapping_cases;
 
+use crate::decode::Part;
 use crate::decode::ROOM;
-use crate::encode::Answer;
 use libc::STDOUT_FILENO;
 
 // A file starts with this many bytes of text.
@@ -27,12 +27,6 @@ enum Turn {
     End,
 }
 
-// A part of a record, and how many of its bytes were there. More than ROOM are never asked for.
-struct Part {
-    bytes: [u8; ROOM],
-    got: usize,
-}
-
 fn read(fd: i32, size: usize) -> Part {
     let mut bytes = [0u8; ROOM];
     if size > ROOM {
@@ -42,26 +36,20 @@ fn read(fd: i32, size: usize) -> Part {
     Part { bytes, got }
 }
 
-// A record that is cut short differs.
-fn judge(inputs: usize, recorded: Part, answer: Answer) -> Turn {
-    if inputs == 0 && recorded.got == 0 {
-        return Turn::End;
-    }
-    let expected = recorded.bytes;
-    let given = answer.bytes;
-    if recorded.got == answer.size && crate::compare::agrees(answer.status, &expected, &given) {
-        Turn::Same
-    } else {
-        Turn::Different
-    }
-}
-
-// Runs the function on the inputs of a file's next record, and reads the recorded answer only then.
+// Runs the function on the inputs of a file's next record, and reads the recorded answer only then. A record that is cut short differs.
 fn next(fd: i32, function: usize) -> Turn {
     let inputs = read(fd, crate::answer::inputs(function));
     let case = inputs.bytes;
     let answer = crate::answer::answer(function, &case);
-    judge(inputs.got, read(fd, answer.size), answer)
+    let recorded = read(fd, answer.size);
+    if inputs.got == 0 && recorded.got == 0 {
+        return Turn::End;
+    }
+    if crate::compare::agrees(recorded, answer) {
+        Turn::Same
+    } else {
+        Turn::Different
+    }
 }
 
 fn report(name: &[u8], cases: u64, differences: u64) {
@@ -112,8 +100,8 @@ fn replay_each(names: &[u8]) {
     }
 }
 
-// In the order of answer.rt's numbers. The last file is of islow_block: the answer of one of its records is wrong at one place, so that
-// its line shows that a difference is seen.
+// In the order of answer.rt's numbers. The last file has records of islow_block, and the answer of one is wrong at one place: its line
+// shows that a difference is seen.
 fn main() {
     replay_each(
         b"wrapping_add_i32 wrapping_sub_i32 wrapping_mul_i32 wrapping_add_i64 wrapping_sub_i64 \
