@@ -158,6 +158,39 @@ static void one_coefficient(void)
     WROTE(name, 1);
 }
 
+/* A plane of 9 x 1 takes two blocks, of which the second has its one column repeated: DC alone. Then the refusals in their order. */
+static void plane(void)
+{
+    static const char name[] = "jpeg_block_fdct_quantize_plane";
+    static const int16_t none[63] = {0};
+    uint8_t samples[10], quant[65];
+    int i;
+    int16_t buffer[GUARD + 129 + GUARD];
+    int16_t *const output = buffer + GUARD;
+    memset(buffer, FILL, sizeof buffer);
+    memset(quant, 16, sizeof quant);
+    for (i = 0; i < 10; i++) {
+        samples[i] = (uint8_t)(i < 4 ? 0 : 255);
+    }
+    REFUSED(name, jpeg_block_fdct_quantize_plane(samples, 0, 0, 1, quant, 63, output, 63), 8);
+    REFUSED(name, jpeg_block_fdct_quantize_plane(samples, 0, 1, 0, quant, 63, output, 63), 8);
+    REFUSED(name, jpeg_block_fdct_quantize_plane(samples, 9, 4097, 1, quant, 63, output, 63), 8);
+    REFUSED(name, jpeg_block_fdct_quantize_plane(samples, 9, 1, SIZE_MAX, quant, 63, output, 63), 8);
+    REFUSED(name, jpeg_block_fdct_quantize_plane(samples, 8, 9, 1, quant, 63, output, 63), 9);
+    REFUSED(name, jpeg_block_fdct_quantize_plane(samples, 10, 9, 1, quant, 64, output, 128), 9);
+    REFUSED(name, jpeg_block_fdct_quantize_plane(NULL, 0, 9, 1, NULL, 0, NULL, 0), 9);
+    REFUSED(name, jpeg_block_fdct_quantize_plane(samples, 9, 9, 1, quant, 63, output, 127), 2);
+    REFUSED(name, jpeg_block_fdct_quantize_plane(samples, 9, 9, 1, quant, 65, output, 128), 2);
+    REFUSED(name, jpeg_block_fdct_quantize_plane(samples, 9, 9, 1, quant, 64, output, 127), 3);
+    REFUSED(name, jpeg_block_fdct_quantize_plane(samples, 9, 9, 1, quant, 64, output, 129), 3);
+    REFUSED(name, jpeg_block_fdct_quantize_plane(samples, 9, 9, 1, quant, 64, NULL, 0), 3);
+    expect(jpeg_block_fdct_quantize_plane(samples, 9, 9, 1, quant, 64, output, 128) == 0, name, "is refused");
+    expect(output[0] == 0 && output[1] != 0 && output[8] == 0, name, "the first block");
+    expect(output[64] == 64 && memcmp(output + 65, none, sizeof none) == 0, name, "the second block");
+    expect(untouched(buffer, GUARD * sizeof *buffer), name, "wrote before the output");
+    expect(untouched(output + 128, (1 + GUARD) * sizeof *buffer), name, "wrote after the output");
+}
+
 /* The divisor of DC is the reciprocal of 8 times its quantizer. */
 static void divisors_made(void)
 {
@@ -303,6 +336,7 @@ int main(void)
     inverse_blocks();
     forward_block();
     one_coefficient();
+    plane();
     divisors_made();
     guarded();
     dequantized();

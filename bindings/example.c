@@ -1,13 +1,17 @@
-/* Codes a block of samples, screens and dequantizes its coefficients, and decodes them again. C and C++ take it. */
+/* Codes a block of samples, screens and dequantizes its coefficients, and decodes them again; then codes a plane. C and C++ take it. */
 #include "jpeg_block.h"
 
 #include <stdio.h>
 #include <stdlib.h>
 
+#define WIDTH 20
+#define HEIGHT 12
+#define BLOCKS (((WIDTH + 7) / 8) * ((HEIGHT + 7) / 8))
+
 int main(void)
 {
-    uint8_t block[64], quant[64], decoded[64], yes[1];
-    int16_t coefficients[64], dc[1];
+    uint8_t block[64], quant[64], decoded[64], yes[1], plane[WIDTH * HEIGHT];
+    int16_t coefficients[64], dc[1], coded[64 * BLOCKS];
     int32_t products[64];
     uint32_t status;
     int n, nonzero = 0, largest = 0;
@@ -55,5 +59,18 @@ int main(void)
 
     status = jpeg_block_islow_block_i32(products, 64, decoded, 63);
     printf("an output of 63 places: refused %u\n", (unsigned)status);
+
+    for (n = 0; n < WIDTH * HEIGHT; n++) {
+        plane[n] = (uint8_t)(40 + 9 * (n % WIDTH) + 3 * (n / WIDTH));
+    }
+    status = jpeg_block_fdct_quantize_plane(plane, WIDTH * HEIGHT, WIDTH, HEIGHT, quant, 64, coded, 64 * BLOCKS);
+    if (status != JPEG_BLOCK_OK) {
+        return EXIT_FAILURE;
+    }
+    printf("DC of the %d blocks of a plane:", BLOCKS);
+    for (n = 0; n < BLOCKS; n++) {
+        printf(" %d", coded[64 * n]);
+    }
+    printf("\n");
     return EXIT_SUCCESS;
 }

@@ -1,5 +1,5 @@
 //! Codes a block of samples, screens and dequantizes its coefficients, and
-//! decodes them again.
+//! decodes them again; then codes a plane.
 
 mod jpeg_block;
 
@@ -32,6 +32,18 @@ fn run() -> Result<(), u32> {
     if let Err(number) = jpeg_block::islow_block_i32(&products, &mut decoded[..63]) {
         println!("an output of 63 places: refused {number}");
     }
+
+    let (width, height) = (20, 12);
+    let plane: Vec<u8> = (0..width * height)
+        .map(|n| (40 + 9 * (n % width) + 3 * (n / width)) as u8)
+        .collect();
+    let mut coded = vec![0; jpeg_block::plane_coefficients(width, height)];
+    jpeg_block::fdct_quantize_plane(&plane, width, height, &quant, &mut coded)?;
+    print!("DC of the {} blocks of a plane:", coded.len() / 64);
+    for block in coded.chunks(64) {
+        print!(" {}", block[0]);
+    }
+    println!();
     Ok(())
 }
 

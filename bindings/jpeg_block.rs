@@ -83,6 +83,16 @@ pub mod raw {
             out: *mut i16,
             out_len: usize,
         ) -> u32;
+        pub fn jpeg_block_fdct_quantize_plane(
+            samples: *const u8,
+            samples_len: usize,
+            width: usize,
+            height: usize,
+            quant: *const u8,
+            quant_len: usize,
+            out: *mut i16,
+            out_len: usize,
+        ) -> u32;
         pub fn jpeg_block_quantization_divisors(
             quant: *const u8,
             quant_len: usize,
@@ -210,6 +220,47 @@ pub fn fdct_quantize_coefficient(block: &[u8], quantizer: u8, natural: usize) ->
         )
     };
     answer(status, place[0])
+}
+
+/// How many coefficients a plane has: 64 for each of its blocks. 0 for a width
+/// or height that `fdct_quantize_plane` refuses.
+#[inline]
+pub fn plane_coefficients(width: usize, height: usize) -> usize {
+    let taken = 1..=4096;
+    if taken.contains(&width) && taken.contains(&height) {
+        64 * width.div_ceil(8) * height.div_ceil(8)
+    } else {
+        0
+    }
+}
+
+/// The canonical coefficients of a plane of samples, row by row: those of block
+/// k at `out[64 * k]` and on, rows of blocks first; past the right or bottom
+/// edge the last column or row repeats. Refusals: 8, a width or height of 0 or
+/// above 4096; 9, samples not `width * height`; 2, a table not of 64; 3, an
+/// output not of 64 places for each block.
+#[inline]
+pub fn fdct_quantize_plane(
+    samples: &[u8],
+    width: usize,
+    height: usize,
+    quant: &[u8],
+    out: &mut [i16],
+) -> Result<(), u32> {
+    // SAFETY: all are slices, and an exclusive one overlaps no other.
+    let status = unsafe {
+        raw::jpeg_block_fdct_quantize_plane(
+            samples.as_ptr(),
+            samples.len(),
+            width,
+            height,
+            quant.as_ptr(),
+            quant.len(),
+            out.as_mut_ptr(),
+            out.len(),
+        )
+    };
+    answer(status, ())
 }
 
 /// The divisors that the guarded quantizer takes for a table. Refusals: 2, a

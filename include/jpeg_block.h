@@ -1,4 +1,4 @@
-/* JPEG 8x8 block transforms: the functions of libjpeg_block.a, which `rt staticlib jpeg_block` writes (x86-64 Linux).
+/* JPEG 8x8 block transforms, and whole planes: the functions of libjpeg_block.a, which `rt staticlib jpeg_block` writes (x86-64 Linux).
  *
  * A block is 64 numbers in natural order: index 8v + u for frequencies, 8y + x for samples (u and x across). A quantizer table is 64
  * quantizers in the same order; a quantizer 0 counts as 1, but for the guarded quantizer, which refuses it.
@@ -11,6 +11,8 @@
  *   3  an output of the wrong length
  *   4  an index above 63
  *   5  a quantizer 0 anywhere
+ *   8  a width or height of 0 or above 4096
+ *   9  samples that are not width times height
  *
  * Quantizers are of 8 bits: a table of T.81 with 16-bit entries is not taken.
  *
@@ -37,6 +39,8 @@ extern "C" {
 #define JPEG_BLOCK_REFUSED_OUTPUT 3
 #define JPEG_BLOCK_REFUSED_INDEX 4
 #define JPEG_BLOCK_REFUSED_QUANTIZER 5
+#define JPEG_BLOCK_REFUSED_SIZE 8
+#define JPEG_BLOCK_REFUSED_SAMPLES 9
 
 /* The inverse transforms (ISLOW) of 64 dequantized coefficients. Refusals 1, 3. */
 
@@ -64,6 +68,11 @@ uint32_t jpeg_block_fdct_quantize(const uint8_t *block, size_t block_len, const 
 
 /* The coefficient at the index `natural` under one quantizer, into out[0]; out_len 1. Refusals 1, 4, 3. */
 uint32_t jpeg_block_fdct_quantize_coefficient(const uint8_t *block, size_t block_len, uint8_t quantizer, size_t natural, int16_t *out, size_t out_len);
+
+/* A whole plane of samples of 8 bits, row by row; width and height 1 to 4096. It is cut into blocks from the top left, rows of blocks
+ * first; past the right or bottom edge the last column or row repeats. The canonical coefficients of block k go to out[64 * k] and on;
+ * out_len 64 for each of the ((width + 7) / 8) * ((height + 7) / 8) blocks. Refusals 8, 9, 2, 3. */
+uint32_t jpeg_block_fdct_quantize_plane(const uint8_t *samples, size_t samples_len, size_t width, size_t height, const uint8_t *quant, size_t quant_len, int16_t *out, size_t out_len);
 
 /* The guarded quantizer of 64 samples of 8 bits: a transform in binary64 and one product for each coefficient; where that lies less
  * than 2^-19 from a half the canonical coefficient stands. It and its divisors want the default floating-point environment: rounding to

@@ -1,9 +1,11 @@
 //! Times every function of libjpeg_block.a beside the published Rust's, on the
 //! same inputs, in turn. The Rust has no dequantizing, screen or sameness; the
-//! plain loops below stand in its place.
+//! plain loops below stand in its place. A plane's time is that of one block,
+//! beside the Rust's in a loop, and beside our own block entry's.
 //!
 //! No arguments: a line for each function and kind of block, `NAME KIND RUST_NS
-//! OURS_NS RATIO`, the medians over the rounds. `count KIND`: calls each
+//! OURS_NS RATIO`, the medians over the rounds; with the beginning of a name,
+//! for the functions whose names begin so. `count KIND`: calls each
 //! function that has this kind, and the Rust's, once for each of the 64 blocks,
 //! for a tool that counts instructions; `kinds`: the names of the kinds.
 
@@ -12,16 +14,21 @@
 mod jpeg_block;
 #[allow(dead_code)]
 mod numbers;
+#[allow(dead_code)]
+mod planes;
 
 use j2k_codec_math::jpeg::{fdct, idct};
 use j2k_encoder::{Divisors, Quantized};
 use numbers::{Random, SEED};
+use planes::{any_plane, blocks, cut, Plane};
 use std::hint::black_box;
 use std::time::Instant;
 
 /// Blocks of a kind: few enough to stay in the nearest cache.
 const BLOCKS: usize = 64;
 const ROUNDS: usize = 501;
+/// Fewer where one call takes long.
+const ALL_ROUNDS_NS: f64 = 2e9;
 /// The time of one round of one side: so short that other programs interrupt
 /// few of them, and the median is of an undisturbed one.
 const ROUND_NS: f64 = 50_000.0;
@@ -69,6 +76,26 @@ rust! {
     rust_fdct_quantize_coefficient(input: &([u8; 64], u8, usize), output: &mut i16) {
         *output = fdct::fdct_quantize_coefficient(&input.0, input.1, input.2);
     }
+    rust_fdct_quantize_plane(input: &(Plane, [u8; 64]), output: &mut Vec<i16>) {
+        let Plane { width, height, samples } = &input.0;
+        let across = blocks(*width);
+        for (k, out) in output.chunks_mut(64).enumerate() {
+            let (left, top) = (8 * (k % across), 8 * (k / across));
+            let mut block = [0; 64];
+            if left + 8 <= *width && top + 8 <= *height {
+                for y in 0..8 {
+                    let from = width * (top + y) + left;
+                    block[8 * y..8 * y + 8].copy_from_slice(&samples[from..from + 8]);
+                }
+            } else {
+                for (i, sample) in block.iter_mut().enumerate() {
+                    let (x, y) = ((left + i % 8).min(width - 1), (top + i / 8).min(height - 1));
+                    *sample = samples[width * y + x];
+                }
+            }
+            out.copy_from_slice(&fdct::fdct_quantize(&block, &input.1));
+        }
+    }
     rust_quantization_divisors(input: &[u8; 64], output: &mut [f64; 64]) {
         *output = Divisors::new(input).reciprocals();
     }
@@ -113,7 +140,8 @@ impl Guarded {
 }
 
 enum Mode {
-    Time,
+    /// The functions whose names begin so.
+    Time(String),
     Count(String),
     Kinds(Vec<&'static str>),
 }
@@ -140,32 +168,52 @@ impl Mode {
         name: &str,
         kind: &'static str,
         inputs: &[I],
+        output: O,
+        rust: impl Fn(&I, &mut O),
+        ours: impl Fn(&I, &mut O),
+    ) {
+        self.run_blocks(name, kind, 1, inputs, output, rust, ours);
+    }
+
+    /// Calls that take so many blocks each: the times are for one block.
+    #[allow(clippy::too_many_arguments)]
+    fn run_blocks<I, O>(
+        &mut self,
+        name: &str,
+        kind: &'static str,
+        blocks: usize,
+        inputs: &[I],
         mut output: O,
         rust: impl Fn(&I, &mut O),
         ours: impl Fn(&I, &mut O),
     ) {
+        let counted = blocks * inputs.len() == BLOCKS;
         match self {
             Mode::Kinds(kinds) => {
-                if !kinds.contains(&kind) {
+                if counted && !kinds.contains(&kind) {
                     kinds.push(kind);
                 }
             }
             Mode::Count(only) => {
-                if only == kind {
+                if counted && only == kind {
                     pass(inputs, &mut output, 1, &rust);
                     pass(inputs, &mut output, 1, &ours);
                 }
             }
-            Mode::Time => {
+            Mode::Time(only) => {
+                if !name.starts_with(only.as_str()) {
+                    return;
+                }
                 let once = (0..9)
                     .map(|_| pass(inputs, &mut output, 1, &rust))
                     .collect();
                 let once = median(once) * inputs.len() as f64;
                 let turns = 1 + (ROUND_NS / once) as usize;
+                let rounds = ROUNDS.min(5 + (ALL_ROUNDS_NS / once) as usize);
                 let (mut theirs, mut here) = (Vec::new(), Vec::new());
-                for _ in 0..ROUNDS {
-                    theirs.push(pass(inputs, &mut output, turns, &rust));
-                    here.push(pass(inputs, &mut output, turns, &ours));
+                for _ in 0..rounds {
+                    theirs.push(pass(inputs, &mut output, turns, &rust) / blocks as f64);
+                    here.push(pass(inputs, &mut output, turns, &ours) / blocks as f64);
                 }
                 let (theirs, here) = (median(theirs), median(here));
                 println!("{name} {kind} {theirs:.1} {here:.1} {:.2}", here / theirs);
@@ -261,7 +309,7 @@ fn main() {
     let mut mode = match args.next().as_deref() {
         Some("count") => Mode::Count(args.next().expect("a kind")),
         Some("kinds") => Mode::Kinds(Vec::new()),
-        _ => Mode::Time,
+        name => Mode::Time(name.unwrap_or("").to_string()),
     };
     inverse! { mode,
         islow_block rust_islow_block i16 => [u8; 64];
@@ -301,6 +349,51 @@ fn main() {
                     .expect("no refusal");
             },
         );
+    }
+    // For one block: the plane cut and coded by the Rust in a loop, and the
+    // blocks, cut beforehand, one after the other through the block entry.
+    for (kind, width, height) in [
+        ("64x64", 64, 64),
+        ("640x480", 640, 480),
+        ("2048x2048", 2048, 2048),
+    ] {
+        let plane = any_plane(&mut Random(SEED), width, height);
+        let n = blocks(width) * blocks(height);
+        let apart = cut(&plane);
+        let inputs = [(plane, K1)];
+        let coded = |(plane, quant): &(Plane, [u8; 64]), output: &mut Vec<i16>| {
+            let Plane { samples, .. } = plane;
+            black_box(jpeg_block::fdct_quantize_plane(
+                samples, width, height, quant, output,
+            ))
+            .expect("no refusal");
+        };
+        let output = vec![0; 64 * n];
+        mode.run_blocks(
+            "fdct_quantize_plane",
+            kind,
+            n,
+            &inputs,
+            output.clone(),
+            rust_fdct_quantize_plane,
+            coded,
+        );
+        if let Mode::Time(_) = mode {
+            mode.run_blocks(
+                "fdct_quantize_plane/fdct_quantize",
+                kind,
+                n,
+                &inputs,
+                output,
+                |(_, quant), output| {
+                    for (block, out) in apart.iter().zip(output.chunks_mut(64)) {
+                        black_box(jpeg_block::fdct_quantize(block, quant, out))
+                            .expect("no refusal");
+                    }
+                },
+                coded,
+            );
+        }
     }
     mode.run(
         "quantization_divisors",

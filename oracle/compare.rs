@@ -23,6 +23,8 @@ mod jpeg_block;
 #[allow(dead_code)]
 mod numbers;
 #[allow(dead_code)]
+mod planes;
+#[allow(dead_code)]
 mod stored;
 
 use blocks::{blocks_from, Clamp, CLAMP_12BIT, CLAMP_8BIT};
@@ -32,12 +34,16 @@ use j2k_codec_math::jpeg::{fdct, idct};
 use j2k_encoder::Divisors;
 use jpeg_block::raw;
 use numbers::{ends, least, most, powers, Number, Random, SEED};
+use planes::{cut, every_size, planes_from, Plane};
 use std::fmt::Debug;
 use std::time::{Duration, Instant};
 use stored::{pairs_of_blocks_from, stored_blocks_from, Pair, Stored};
 
 /// Inputs in one list: more than the boundary ones of any function.
 const LIST: usize = 4_000;
+
+/// Planes in one list.
+const PLANES: usize = 20;
 
 /// The lengths that are tried for each buffer: around 1, 4, 16 and 64.
 const LENGTHS: [usize; 13] = [0, 1, 2, 3, 4, 5, 15, 16, 17, 63, 64, 65, 128];
@@ -299,6 +305,30 @@ fn coefficient(block: &[u8], quantizer: u8, natural: usize, out: &mut [i16]) -> 
     }
 }
 
+fn plane_forward(
+    samples: &[u8],
+    (width, height): (usize, usize),
+    quant: &[u8],
+    out: &mut [i16],
+) -> u32 {
+    // SAFETY: all are slices, and an exclusive one overlaps no other.
+    unsafe {
+        raw::jpeg_block_fdct_quantize_plane(
+            samples.as_ptr(),
+            samples.len(),
+            width,
+            height,
+            quant.as_ptr(),
+            quant.len(),
+            out.as_mut_ptr(),
+            out.len(),
+        )
+    }
+}
+
+/// Widths and heights around every one that a plane call takes.
+const MEASURES: [usize; 10] = [0, 1, 7, 8, 9, 4095, 4096, 4097, 1 << 32, usize::MAX];
+
 /// A function, and how a list of inputs from a seed is tried on it.
 struct Function {
     tally: Tally,
@@ -558,6 +588,82 @@ impl Compare {
         );
     }
 
+    /// Every size and every length around the right ones; a size with more than
+    /// 2^16 samples only with an output of 0.
+    fn plane_lengths(tally: &mut Tally) {
+        let zeros = vec![0; (1 << 16) + 1];
+        for width in MEASURES {
+            for height in MEASURES {
+                let sized = (1..=4096).contains(&width) && (1..=4096).contains(&height);
+                let area = width.wrapping_mul(height);
+                let n = if sized {
+                    64 * planes::blocks(width) * planes::blocks(height)
+                } else {
+                    64
+                };
+                let small = area.min(1 << 16);
+                for samples in [0, small.saturating_sub(1), small, small + 1] {
+                    for quant in [0, 63, 64, 65] {
+                        for out in [0, n - 1, n, n + 1] {
+                            let number = if !sized {
+                                8
+                            } else if samples != area {
+                                9
+                            } else if quant != 64 {
+                                2
+                            } else if out != n {
+                                3
+                            } else {
+                                0
+                            };
+                            let out = if area > 1 << 16 { 0 } else { out };
+                            tally.length(
+                                number,
+                                out,
+                                (width, height, samples, quant, out),
+                                |to: &mut [i16]| {
+                                    plane_forward(
+                                        &zeros[..samples],
+                                        (width, height),
+                                        &zeros[..quant],
+                                        to,
+                                    )
+                                },
+                            );
+                        }
+                    }
+                }
+            }
+        }
+    }
+
+    /// Every plane of one list against the Rust's coefficients of its blocks.
+    fn planes(&mut self) {
+        let mut tally = Tally::new("fdct_quantize_plane");
+        Self::plane_lengths(&mut tally);
+        let first = self.seed;
+        let try_list = Box::new(move |seed, tally: &mut Tally| {
+            let list = if seed == first {
+                every_size(seed)
+            } else {
+                planes_from(seed, PLANES)
+            };
+            let mut random = Random(seed);
+            for plane in list {
+                let quant = any_table(&mut random);
+                tally.cases += 1;
+                if let Some(what) = plane_difference(&plane, &quant) {
+                    if tally.differences == 0 {
+                        let Plane { width, height, .. } = plane;
+                        println!("{}: {width} x {height}: {what}", tally.name);
+                    }
+                    tally.differences += 1;
+                }
+            }
+        });
+        self.functions.push(Function { tally, try_list });
+    }
+
     fn divisors(&mut self) {
         let mut tally = Tally::new("quantization_divisors");
         for a in LENGTHS {
@@ -731,6 +837,30 @@ impl Compare {
     }
 }
 
+/// What is not as expected in a plane's coefficients: the first block that
+/// differs, its samples and table, and both answers.
+fn plane_difference(plane: &Plane, quant: &Table) -> Option<String> {
+    let blocks = cut(plane);
+    let mut out = Lent::new(64 * blocks.len());
+    let size = (plane.width, plane.height);
+    let status = plane_forward(&plane.samples, size, quant, out.places());
+    if status != 0 {
+        return Some(format!("refused {status}"));
+    }
+    if !out.guards() {
+        return Some("wrote beside the output".to_string());
+    }
+    for (k, (block, here)) in blocks.iter().zip(out.held().chunks(64)).enumerate() {
+        let expected = fdct::fdct_quantize(block, quant);
+        if here != expected {
+            return Some(format!(
+                "block {k} {block:?} under {quant:?}: here {here:?}, expected {expected:?}"
+            ));
+        }
+    }
+    None
+}
+
 fn argument(at: usize, default: u64) -> u64 {
     std::env::args().nth(at).map_or(default, |word| {
         word.parse().expect("a whole number as argument")
@@ -747,6 +877,7 @@ fn main() {
     };
     compare.inverses();
     compare.forwards();
+    compare.planes();
     compare.divisors();
     compare.guarded();
     compare.stored();

@@ -41,7 +41,8 @@ fn wide(quantizer: u8) -> u16
     quantizer as u16
 }
 
-fn widen(quant: &[u8]) -> [u16; 64]
+// An 8-bit table as a 16-bit one.
+pub fn widen(quant: &[u8]) -> [u16; 64]
     requires { ⌜ length (now quant) ≡ 64 ⌝ }
     ensures { λ r. ⌜ r ≡ now (quant .entry) ⌝ }
 {
@@ -52,6 +53,15 @@ fn widen(quant: &[u8]) -> [u16; 64]
         i += 1;
     }
     wider
+}
+
+// The coefficients of a block under a widened table: the step of `fdct_quantize`, and of a plane that widens its table once.
+pub fn write_block(block: &[u8], quant: &[u16; 64], out: &mut [i16])
+    requires { ⌜ (length (now block) ≡ 64) × (length (now out) ≡ 64) ⌝ }
+    ensures { λ _. ⌜ now (out .exit) ≡ coefficients (now (block .entry)) (now (quant .entry)) ⌝ }
+{
+    let samples = level_shift(block);
+    write_coefficients(&samples, quant, out);
 }
 
 pub fn fdct_quantize(block: &[u8], quant: &[u8], out: &mut [i16]) -> u32
@@ -67,9 +77,7 @@ pub fn fdct_quantize(block: &[u8], quant: &[u8], out: &mut [i16]) -> u32
     if out.len() != 64 {
         return 3;
     }
-    let samples = level_shift(block);
-    let wider = widen(quant);
-    write_coefficients(&samples, &wider, out);
+    write_block(block, &widen(quant), out);
     0
 }
 

@@ -8,4 +8,5 @@ mod guarded;
 mod inverse;
 mod inverse_i32;
 mod place;
+mod planes;
 mod stored;

@@ -157,14 +157,19 @@ tab-append f k (suc n) =
     sym (append-assoc (tab k f) (tab n (λ j. f (k + j))) (f (k + n) ∷ [])) ∙ ap (λ (l : List _). l ++ (f (k + n) ∷ [])) (tab-append f k n)
     ∙ ap (λ (m : ℕ). tab m f) (sym (add-suc k n))
 
+-- a run of n places pasted behind the first k
+pub filled-run : {A : Type 0} (f : ℕ → A) (m k : ℕ) (l ys : List A) (n : ℕ) → Filled f m k l → k + n ≤ m → n ≤ length ys → take n ys ≡ tab n (λ j. f (k + j)) → Filled f m (k + n) (paste l k ys n)
+filled-run f m k l ys n h b long e =
+    let at : k ≤ length l = omega (arith, h .long) in
+    record {
+      long = length-paste l k ys n (omega (arith, h .long)) long ∙ h .long;
+      front = take-paste l k ys n at long ∙ (λ i. h .front i ++ e i) ∙ tab-append f k n;
+    }
+
 pub filled-paste : {A : Type 0} (f : ℕ → A) (m k : ℕ) (l ys : List A) (n : ℕ) → Filled f m k l → k + n ≤ m → ys ≡ tab n (λ j. f (k + j)) → Filled f m (k + n) (paste l k ys n)
 filled-paste f m k l ys n h b e =
     let long : length ys ≡ n = ap length e ∙ length-tab n (λ j. f (k + j)) in
-    let at : k ≤ length l = omega (arith, h .long) in
-    record {
-      long = length-paste l k ys n (omega (arith, h .long)) (omega arith) ∙ h .long;
-      front = take-paste l k ys n at (omega arith) ∙ (λ i. h .front i ++ (take-all n ys (omega arith) ∙ e) i) ∙ tab-append f k n;
-    }
+    filled-run f m k l ys n h b (omega arith) (take-all n ys (omega arith) ∙ e)
 
 -- what a run of stores has not reached yet
 pub getD-paste : {A : Type 0} (d : A) (l ys : List A) (at n i : ℕ) → at ≤ length l → n ≤ length ys → getD (paste l at ys n) (at + n + i) d ≡ getD l (at + n + i) d

@@ -8,20 +8,24 @@ use native.Mathlib.Nat.{mul-le-mul, le-of-eq, le-trans}
 use native.Mathlib.Omega.{arith}
 use borrow.Author.Tests.{eqb-true}
 use lib.Dec.{T, leb, leb→le}
-use lib.ListN.{length}
-use lib.Seq.{paste}
+use lib.ListN.{length, getD, take, drop, length-drop}
+use lib.Seq.{paste, length-take-le, getD-take, getD-drop}
 use lib.IntN.{ℤ, pos}
 use mir.Facts.{and-yes}
 use Rattle.lists.specs.Tab.{tab}
-use Rattle.lists.specs.Grid.{grid}
-use Rattle.lists.proofs.Tab.{Filled, none, same, all, filled-paste, tab-ext, length-tab}
+use Rattle.lists.specs.Grid.{grid, at}
+use Rattle.lists.proofs.Tab.{Filled, none, same, all, filled-paste, by-elements, tab-ext, length-tab}
 use Rattle.lists.proofs.Grid.{index, column-of, row-of, length-grid}
-use Rattle.lists.proofs.Parts.{lent, back, length-lent, part-back}
-use Rattle.refusals.specs.Refusals.{status, written, blockTests}
-use Rattle.refusals.proofs.Refusals.{has, _then_, left, passed-all}
+use Rattle.lists.proofs.Parts.{back, part-back}
+use Rattle.refusals.specs.Refusals.{status}
+use Rattle.refusals.proofs.Refusals.{passed-all}
 use Rattle.forward.specs.Canonical.{canonical, coefficients}
-use Rattle.plane.specs.Plane.{blocks, blockAt, blockOf, planeCoefficients, measured, forwardTests}
+use Rattle.plane.specs.Plane.{blocks, sampleAt, blockAt, blockOf, planeCoefficients, measured, forwardTests}
 use Rattle.plane.specs.Ready.{PlaneOf}
+
+-- sample i of the block in column x and row y of blocks
+abbrev pub sampleOf : List ℕ → ℕ → ℕ → ℕ → ℕ → ℕ → ℕ
+sampleOf samples w h x y i = sampleAt samples w h (8 * x + i % 8) (8 * y + i / 8)
 
 module _ (samples : List ℕ) (w h : ℕ) (p : PlaneOf samples w h) where
   -- how many samples there are at most
@@ -35,6 +39,22 @@ module _ (samples : List ℕ) (w h : ℕ) (p : PlaneOf samples w h) where
       let b : 1 ≤ h = p .h-some in
       let l : w * y′ + x′ < w * h = index w {x = x′} (omega arith) {y = y′} {n = h} (omega arith) in
       omega (arith, p .long)
+
+  -- row j of a block inside the plane
+  module _ (x y : ℕ) (l : x < w / 8) (t : y < h / 8) {j : ℕ} (b : j < 8) where
+    pub inside : w * (8 * y) + 8 * x + w * j + 8 ≤ length samples
+    inside =
+        let r = index w {x = 8 * x + 7} (omega arith) {y = 8 * y + j} {n = h} (omega arith) in
+        omega (arith, p .long)
+
+    pub inside-row : take 8 (drop (w * (8 * y) + 8 * x + w * j) samples) ≡ tab 8 (λ i. sampleOf samples w h x y (8 * j + i))
+    unfolding sampleAt
+    inside-row =
+        let from = w * (8 * y) + 8 * x + w * j in
+        by-elements 8 _ 0 (take 8 (drop from samples)) (length-take-le 8 (drop from samples) (omega (arith, length-drop from samples, inside))) (λ i a.
+        let ex : min (8 * x + (8 * j + i) % 8) (w - 1) ≡ 8 * x + i = omega arith in
+        let ey : min (8 * y + (8 * j + i) / 8) (h - 1) ≡ 8 * y + j = omega arith in
+        getD-take 8 (drop from samples) i 0 a ∙ getD-drop from samples i 0 ∙ ap (λ (k : ℕ). getD samples k 0) (omega arith) ∙ sym (λ i. at 0 w samples (ex i) (ey i)))
 
 -- ---- the loop over the blocks
 
@@ -67,12 +87,10 @@ pub length-block : (samples : List ℕ) (w h x y : ℕ) → length (blockAt samp
 unfolding blockAt
 length-block samples w h x y = length-grid 0 8 8 _
 
--- the block entry, lent a part of 64, is not refused: the part holds the coefficients, and the rest is kept
-pub part-coded : (block quant : List ℕ) (out : List ℤ) (a : ℕ) → length block ≡ 64 → length quant ≡ 64 → a + 64 ≤ length out → {r : ℕ} {held : List ℤ} →
-    (r ≡ status (blockTests block quant (lent a 64 out))) × (held ≡ written r (coefficients block quant) (lent a 64 out)) → back a 64 out held ≡ paste out a (coefficients block quant) 64
+-- the block's coefficients in the part of 64 that was lent, and the rest kept
+pub part-coded : (block quant : List ℕ) (out : List ℤ) (a : ℕ) {held : List ℤ} → held ≡ coefficients block quant → back a 64 out held ≡ paste out a (coefficients block quant) 64
 unfolding coefficients
-part-coded block quant out a b q l e =
-    ap (back a 64 out) (left _ _ _ (has b then has q then has (length-lent a 64 out l) then tt) e) ∙ part-back out (coefficients block quant) a 64 (length-tab 64 _)
+part-coded block quant out a e = ap (back a 64 out) e ∙ part-back out (coefficients block quant) a 64 (length-tab 64 _)
 
 -- ---- where no test fails
 

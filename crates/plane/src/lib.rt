@@ -2,15 +2,19 @@
 //
 // A plane is at most 4096 × 4096, so every index is below 2^25 and nothing overflows (`samples-most` of proofs/Coding.antt). Each block is
 // copied out of the plane, its edge repeated, and coded into its own 64 places of the output: no more than one block is held.
+mod runs;
+
 ghost use mathlib.Core.Path.{_≡_};
-ghost use Prim.Native.Nat.{_+_, _*_, _≤_, _<_, min};
+ghost use Prim.Native.Nat.{_+_, _*_, _/_, _≤_, _<_, min};
 ghost use lib.ListN.{length};
 ghost use lib.Seq.{paste};
 ghost use Rattle.refusals.specs.Refusals.{status, written};
 ghost use Rattle.forward.specs.Canonical.{coefficients};
 ghost use Rattle.plane.specs.Plane.{blocks, sampleAt, blockAt, blockOf, measured, planeCoefficients, forwardTests};
 ghost use Rattle.plane.specs.Ready.{PlaneOf};
-use fdct::fdct_quantize;
+use crate::runs::copy_run;
+use fdct::widen;
+use fdct::write_block;
 
 // A width or height of 1 to 4096.
 fn is_measured(n: usize) -> bool
@@ -48,8 +52,24 @@ fn sample_at(samples: &[u8], width: usize, height: usize, x: usize, y: usize) ->
     samples[width * lesser(y, height - 1) + lesser(x, width - 1)]
 }
 
-// The block in column x and row y of blocks.
-fn block_at(samples: &[u8], width: usize, height: usize, x: usize, y: usize) -> [u8; 64]
+// The block in column x and row y of blocks, all of it inside the plane: eight rows of eight samples.
+fn block_inside(samples: &[u8], width: usize, height: usize, x: usize, y: usize) -> [u8; 64]
+    requires { ⌜ PlaneOf (now samples) width height ⌝ }
+    requires { ⌜ (x < width / 8) × (y < height / 8) ⌝ }
+    ensures { λ r. ⌜ r ≡ blockAt (now (samples .entry)) width height x y ⌝ }
+{
+    let at = width * (8 * y) + 8 * x;
+    let mut block = [0u8; 64];
+    let mut j = 0;
+    while j < 8 {
+        copy_run(samples, at + width * j, 8, &mut block, 8 * j);
+        j += 1;
+    }
+    block
+}
+
+// The block in column x and row y of blocks, wherever it lies.
+fn block_at_edge(samples: &[u8], width: usize, height: usize, x: usize, y: usize) -> [u8; 64]
     requires { ⌜ PlaneOf (now samples) width height ⌝ }
     requires { ⌜ (x < blocks width) × (y < blocks height) ⌝ }
     ensures { λ r. ⌜ r ≡ blockAt (now (samples .entry)) width height x y ⌝ }
@@ -63,10 +83,29 @@ fn block_at(samples: &[u8], width: usize, height: usize, x: usize, y: usize) -> 
     block
 }
 
-// Codes block k into its own part of the output; all other places keep their content.
-fn code_block(samples: &[u8], width: usize, height: usize, quant: &[u8], k: usize, out: &mut [i16])
+fn block_at(samples: &[u8], width: usize, height: usize, x: usize, y: usize) -> [u8; 64]
     requires { ⌜ PlaneOf (now samples) width height ⌝ }
-    requires { ⌜ length (now quant) ≡ 64 ⌝ }
+    requires { ⌜ (x < blocks width) × (y < blocks height) ⌝ }
+    ensures { λ r. ⌜ r ≡ blockAt (now (samples .entry)) width height x y ⌝ }
+{
+    if x < width / 8 {
+        if y < height / 8 {
+            return block_inside(samples, width, height, x, y);
+        }
+    }
+    block_at_edge(samples, width, height, x, y)
+}
+
+// Codes block k into its own part of the output; all other places keep their content.
+fn code_block(
+    samples: &[u8],
+    width: usize,
+    height: usize,
+    quant: &[u16; 64],
+    k: usize,
+    out: &mut [i16],
+)
+    requires { ⌜ PlaneOf (now samples) width height ⌝ }
     requires { ⌜ k < blocks width * blocks height ⌝ }
     requires { ⌜ 64 * k + 64 ≤ length (now out) ⌝ }
     ensures { λ _. ⌜ now (out .exit) ≡ paste (now (out .entry)) (64 * k) (coefficients (blockOf (now (samples .entry)) width height k) (now (quant .entry))) 64 ⌝ }
@@ -75,7 +114,7 @@ fn code_block(samples: &[u8], width: usize, height: usize, quant: &[u8], k: usiz
     let block = block_at(samples, width, height, k % across, k / across);
     let at = 64 * k;
     let end = at + 64;
-    fdct_quantize(&block, quant, &mut out[at..end]);
+    write_block(&block, quant, &mut out[at..end]);
 }
 
 fn code_plane(samples: &[u8], width: usize, height: usize, quant: &[u8], out: &mut [i16])
@@ -83,10 +122,11 @@ fn code_plane(samples: &[u8], width: usize, height: usize, quant: &[u8], out: &m
     requires { ⌜ (length (now quant) ≡ 64) × (length (now out) ≡ 64 * (blocks width * blocks height)) ⌝ }
     ensures { λ _. ⌜ now (out .exit) ≡ planeCoefficients (now (samples .entry)) width height (now (quant .entry)) ⌝ }
 {
+    let wider = widen(quant);
     let n = blocks_of(width) * blocks_of(height);
     let mut k = 0;
     while k < n {
-        code_block(samples, width, height, quant, k, out);
+        code_block(samples, width, height, &wider, k, out);
         k += 1;
     }
 }

@@ -14,12 +14,12 @@ use Rattle.plane.proofs.code_block.Statement.{statement}
 use Rattle.plane.proofs.code_block.Tie as tie
 
 some : tie.Need-rem-block-at
-some c = omega (arith, c .blocks-of .ensures .0, placed _ _ _ (c .before .before .before .pre .1 .1 .0) .0)
+some c = omega (arith, c .blocks-of .ensures .0, placed _ _ _ (c .before .before .pre .1 .0) .0)
 
 block-at-requires : tie.Need-block-at-requires
 block-at-requires c κs =
-    let s = c .before .before .before in
-    let inside = placed _ _ _ (s .pre .1 .1 .0) in
+    let s = c .before .before in
+    let inside = placed _ _ _ (s .pre .1 .0) in
     let e = c .blocks-of .ensures .0 in
     (s .pre .0, (rw e (inside .0), rw e (inside .1 .0)))
 
@@ -27,11 +27,11 @@ returns : tie.Need-returns
 unfolding blockOf
 returns c =
     let across = c .before .before .before .before .before in
-    let s = across .before .before .before in
+    let s = across .before .before in
     let g = c .before .before .before .before .block-at .ensures in
     let k = s .args .k in
     let block = g ∙ (λ i. blockAt (s .args .samples .now) (s .args .width) (s .args .height) (k % across .blocks-of .ensures .0 i) (k / across .blocks-of .ensures .0 i)) in
-    part-coded _ (s .args .quant .now) (s .args .out .now) (64 * k) (ap length g ∙ length-block _ _ _ _ _) (s .pre .1 .0) (s .pre .1 .1 .1) (c .before .fdct-quantize .ensures)
+    part-coded _ (s .args .quant .now) (s .args .out .now) (64 * k) (c .before .write-block .ensures)
     ∙ ap (λ (b : List ℕ). paste (s .args .out .now) (64 * k) (coefficients b (s .args .quant .now)) 64) block
 
 pub code-block-spec : {M : Type 1} → statement M

@@ -1,17 +1,14 @@
--- `plane::block_at` meets its contract. Assumes nothing.
-use Prim.Native.Nat.{ℕ, _+_, _*_, _/_, _%_, _≤_, _<_, _-_}
+-- `plane::block_at_edge` meets its contract. Assumes nothing.
+use Prim.Native.Nat.{ℕ, _+_, _*_, _≤_, _<_, _-_}
 use mathlib.Core.Path.{refl}
-use mathlib.Core.List.{List}
 use borrow.Author.Needs.{needs}
 use native.Mathlib.Omega.{arith}
 use Rattle.lists.proofs.Tab.{Filled, none, more, all}
 use Rattle.lists.specs.Grid.{grid}
-use Rattle.plane.specs.Plane.{blocks, sampleAt, blockAt}
-use Rattle.plane.proofs.block_at.Statement.{statement}
-use Rattle.plane.proofs.block_at.Tie as tie
-
-abbrev sampleOf : List ℕ → ℕ → ℕ → ℕ → ℕ → ℕ → ℕ
-sampleOf samples w h x y i = sampleAt samples w h (8 * x + i % 8) (8 * y + i / 8)
+use Rattle.plane.specs.Plane.{blocks, blockAt}
+use Rattle.plane.proofs.Coding.{sampleOf}
+use Rattle.plane.proofs.block_at_edge.Statement.{statement}
+use Rattle.plane.proofs.block_at_edge.Tie as tie
 
 abbrev Inv-loop : tie.InvT-loop
 Inv-loop samples width height x y block₀ i₀ block i = (i ≤ 64) × Filled (sampleOf samples width height x y) 64 i block
@@ -33,8 +30,8 @@ returns c =
     let s = c .before .before .before in
     all (sampleOf (s .args .samples .now) (s .args .width) (s .args .height) (s .args .x) (s .args .y)) 64 _ _ (c .before .loop .inv .1) (omega arith) (omega arith)
 
-pub block-at-spec : {M : Type 1} → statement M
-block-at-spec =
+pub block-at-edge-spec : {M : Type 1} → statement M
+block-at-edge-spec =
     tie.close
     (tie.spec
     Inv-loop
