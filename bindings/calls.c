@@ -191,6 +191,43 @@ static void plane(void)
     expect(untouched(output + 128, (1 + GUARD) * sizeof *buffer), name, "wrote after the output");
 }
 
+/* A plane of 9 x 1 back, at w x 1 samples: DC 4 of the first block, 1 of the second, under quantizers 8. Then the refusals in order. */
+#define INVERSE_PLANE(entry, w) \
+    do { \
+        static const char name[] = #entry; \
+        int16_t coefficients[129] = {0}; \
+        uint8_t quant[65]; \
+        int i; \
+        OUTPUT(uint8_t); \
+        memset(quant, 8, sizeof quant); \
+        coefficients[0] = 4; \
+        coefficients[64] = 1; \
+        REFUSED(name, entry(coefficients, 0, 0, 1, quant, 63, output, 0), 8); \
+        REFUSED(name, entry(coefficients, 0, 1, 0, quant, 63, output, 0), 8); \
+        REFUSED(name, entry(coefficients, 128, 4097, 1, quant, 64, output, w), 8); \
+        REFUSED(name, entry(coefficients, 128, 9, SIZE_MAX, quant, 64, output, w), 8); \
+        REFUSED(name, entry(coefficients, 127, 9, 1, quant, 63, output, (w) - 1), 1); \
+        REFUSED(name, entry(coefficients, 129, 9, 1, quant, 64, output, w), 1); \
+        REFUSED(name, entry(NULL, 0, 9, 1, NULL, 0, NULL, 0), 1); \
+        REFUSED(name, entry(coefficients, 128, 9, 1, quant, 63, output, (w) - 1), 2); \
+        REFUSED(name, entry(coefficients, 128, 9, 1, quant, 65, output, w), 2); \
+        REFUSED(name, entry(coefficients, 128, 9, 1, quant, 64, output, (w) - 1), 3); \
+        REFUSED(name, entry(coefficients, 128, 9, 1, quant, 64, output, (w) + 1), 3); \
+        REFUSED(name, entry(coefficients, 128, 9, 1, quant, 64, NULL, 0), 3); \
+        expect(entry(coefficients, 128, 9, 1, quant, 64, output, w) == 0, name, "is refused"); \
+        for (i = 0; i < (w); i++) { \
+            expect(output[i] == (i < (w) - 1 ? 132 : 129), name, "a sample"); \
+        } \
+        WROTE(name, w); \
+    } while (0)
+
+static void inverse_planes(void)
+{
+    INVERSE_PLANE(jpeg_block_islow_plane, 9);
+    INVERSE_PLANE(jpeg_block_islow_plane_4x4, 5);
+    INVERSE_PLANE(jpeg_block_islow_plane_2x2, 3);
+}
+
 /* The divisor of DC is the reciprocal of 8 times its quantizer. */
 static void divisors_made(void)
 {
@@ -337,6 +374,7 @@ int main(void)
     forward_block();
     one_coefficient();
     plane();
+    inverse_planes();
     divisors_made();
     guarded();
     dequantized();

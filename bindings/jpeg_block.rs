@@ -121,6 +121,36 @@ pub mod raw {
             out: *mut i32,
             out_len: usize,
         ) -> u32;
+        pub fn jpeg_block_islow_plane(
+            coefficients: *const i16,
+            coefficients_len: usize,
+            width: usize,
+            height: usize,
+            quant: *const u8,
+            quant_len: usize,
+            output: *mut u8,
+            output_len: usize,
+        ) -> u32;
+        pub fn jpeg_block_islow_plane_4x4(
+            coefficients: *const i16,
+            coefficients_len: usize,
+            width: usize,
+            height: usize,
+            quant: *const u8,
+            quant_len: usize,
+            output: *mut u8,
+            output_len: usize,
+        ) -> u32;
+        pub fn jpeg_block_islow_plane_2x2(
+            coefficients: *const i16,
+            coefficients_len: usize,
+            width: usize,
+            height: usize,
+            quant: *const u8,
+            quant_len: usize,
+            output: *mut u8,
+            output_len: usize,
+        ) -> u32;
         pub fn jpeg_block_screen(
             coefficients: *const i16,
             coefficients_len: usize,
@@ -343,6 +373,47 @@ pub fn dequantize(coefficients: &[i16], quant: &[u8], out: &mut [i32]) -> Result
         )
     };
     answer(status, ())
+}
+
+macro_rules! inverse_plane {
+    ($($(#[$says:meta])* $name:ident, $raw:ident;)*) => {$(
+        $(#[$says])*
+        ///
+        /// Refusals: 8, a width or height of 0 or above 4096; 1, coefficients not
+        /// 64 for each block; 2, a table not of 64; 3, an output of the wrong length.
+        #[inline]
+        pub fn $name(
+            coefficients: &[i16],
+            width: usize,
+            height: usize,
+            quant: &[u8],
+            output: &mut [u8],
+        ) -> Result<(), u32> {
+            // SAFETY: all are slices, and an exclusive one overlaps no other.
+            let status = unsafe {
+                raw::$raw(
+                    coefficients.as_ptr(),
+                    coefficients.len(),
+                    width,
+                    height,
+                    quant.as_ptr(),
+                    quant.len(),
+                    output.as_mut_ptr(),
+                    output.len(),
+                )
+            };
+            answer(status, ())
+        }
+    )*};
+}
+
+inverse_plane! {
+    /// A plane of `width * height` samples from its coefficients.
+    islow_plane, jpeg_block_islow_plane;
+    /// A plane at half size, width and height rounded up: 4x4 samples a block.
+    islow_plane_4x4, jpeg_block_islow_plane_4x4;
+    /// A plane at quarter size, width and height rounded up: 2x2 samples a block.
+    islow_plane_2x2, jpeg_block_islow_plane_2x2;
 }
 
 /// Whether every such product lies in -1024..=1023. Refusals: 1, a block not of

@@ -6,7 +6,7 @@
  * Each buffer is a pointer and its length, the number of elements and not of bytes. Each function returns 0, and has then written the
  * whole of its output; or a refusal's number, and has then written nothing:
  *
- *   1  an input block that is not of 64 places
+ *   1  an input block that is not of 64 places; coefficients of a plane that are not 64 for each block
  *   2  a quantizer table, or divisors, not of 64
  *   3  an output of the wrong length
  *   4  an index above 63
@@ -69,11 +69,6 @@ uint32_t jpeg_block_fdct_quantize(const uint8_t *block, size_t block_len, const 
 /* The coefficient at the index `natural` under one quantizer, into out[0]; out_len 1. Refusals 1, 4, 3. */
 uint32_t jpeg_block_fdct_quantize_coefficient(const uint8_t *block, size_t block_len, uint8_t quantizer, size_t natural, int16_t *out, size_t out_len);
 
-/* A whole plane of samples of 8 bits, row by row; width and height 1 to 4096. It is cut into blocks from the top left, rows of blocks
- * first; past the right or bottom edge the last column or row repeats. The canonical coefficients of block k go to out[64 * k] and on;
- * out_len 64 for each of the ((width + 7) / 8) * ((height + 7) / 8) blocks. Refusals 8, 9, 2, 3. */
-uint32_t jpeg_block_fdct_quantize_plane(const uint8_t *samples, size_t samples_len, size_t width, size_t height, const uint8_t *quant, size_t quant_len, int16_t *out, size_t out_len);
-
 /* The guarded quantizer of 64 samples of 8 bits: a transform in binary64 and one product for each coefficient; where that lies less
  * than 2^-19 from a half the canonical coefficient stands. It and its divisors want the default floating-point environment: rounding to
  * nearest, ties to even, and subnormal numbers kept. */
@@ -96,6 +91,21 @@ uint32_t jpeg_block_screen(const int16_t *coefficients, size_t coefficients_len,
 
 /* Into yes[0]: 1 when all 64 coefficients are equal, else 0; yes_len 1. Refusals 1 for either block, 3. */
 uint32_t jpeg_block_same(const int16_t *a, size_t a_len, const int16_t *b, size_t b_len, uint8_t *yes, size_t yes_len);
+
+/* Whole planes, width and height 1 to 4096. */
+
+/* The samples of 8 bits, row by row, are cut into blocks from the top left, rows of blocks first; past the right or bottom edge the last
+ * column or row repeats. The canonical coefficients of block k go to out[64 * k] and on; out_len 64 for each of the
+ * ((width + 7) / 8) * ((height + 7) / 8) blocks. Refusals 8, 9, 2, 3. */
+uint32_t jpeg_block_fdct_quantize_plane(const uint8_t *samples, size_t samples_len, size_t width, size_t height, const uint8_t *quant, size_t quant_len, int16_t *out, size_t out_len);
+
+/* Coefficients, 64 for each block as jpeg_block_fdct_quantize_plane writes them, back to samples of 8 bits, row by row: at full size,
+ * output_len width * height; with 4 or 2 samples for a block's side, output_len that of the width and height divided by 2 or 4, each
+ * rounded up. What a block has beyond the plane's edge is left out. At full size the products of coefficient and quantizer are of 32
+ * bits, else each is clamped to 16. Refusals 8, 1, 2, 3. */
+uint32_t jpeg_block_islow_plane(const int16_t *coefficients, size_t coefficients_len, size_t width, size_t height, const uint8_t *quant, size_t quant_len, uint8_t *output, size_t output_len);
+uint32_t jpeg_block_islow_plane_4x4(const int16_t *coefficients, size_t coefficients_len, size_t width, size_t height, const uint8_t *quant, size_t quant_len, uint8_t *output, size_t output_len);
+uint32_t jpeg_block_islow_plane_2x2(const int16_t *coefficients, size_t coefficients_len, size_t width, size_t height, const uint8_t *quant, size_t quant_len, uint8_t *output, size_t output_len);
 
 #ifdef __cplusplus
 }

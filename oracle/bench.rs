@@ -96,6 +96,21 @@ rust! {
             out.copy_from_slice(&fdct::fdct_quantize(&block, &input.1));
         }
     }
+    rust_islow_plane(input: &Stored, output: &mut Vec<u8>) {
+        rust_plane::<8, 64>(input, 1, output, |products, block| {
+            idct::islow_block(products, block);
+        });
+    }
+    rust_islow_plane_4x4(input: &Stored, output: &mut Vec<u8>) {
+        rust_plane::<4, 16>(input, 2, output, |products, block| {
+            idct::islow_block_4x4(&narrow(products), block);
+        });
+    }
+    rust_islow_plane_2x2(input: &Stored, output: &mut Vec<u8>) {
+        rust_plane::<2, 4>(input, 4, output, |products, block| {
+            idct::islow_block_2x2(&narrow(products), block);
+        });
+    }
     rust_quantization_divisors(input: &[u8; 64], output: &mut [f64; 64]) {
         *output = Divisors::new(input).reciprocals();
     }
@@ -115,6 +130,48 @@ rust! {
     }
     rust_same(input: &([i16; 64], [i16; 64]), output: &mut bool) {
         *output = input.0 == input.1;
+    }
+}
+
+/// A plane's coefficients, its width and height, and the table.
+struct Stored {
+    coefficients: Vec<i16>,
+    width: usize,
+    height: usize,
+    quant: [u8; 64],
+}
+
+fn narrow(products: &[i32; 64]) -> [i16; 64] {
+    products.map(|p| p.clamp(-32_768, 32_767) as i16)
+}
+
+/// A plane back at one sample of `by`, blocks of S x S samples by the Rust.
+#[inline(always)]
+fn rust_plane<const S: usize, const N: usize>(
+    input: &Stored,
+    by: usize,
+    output: &mut [u8],
+    inverse: impl Fn(&[i32; 64], &mut [u8; N]),
+) {
+    let (columns, rows) = (input.width.div_ceil(by), input.height.div_ceil(by));
+    let across = blocks(input.width);
+    for (k, stored) in input.coefficients.chunks(64).enumerate() {
+        let mut products = [0; 64];
+        for n in 0..64 {
+            products[n] = i32::from(stored[n]) * i32::from(input.quant[n].max(1));
+        }
+        let mut block = [0; N];
+        inverse(&products, &mut block);
+        let (left, top) = (S * (k % across), S * (k / across));
+        for y in 0..S.min(rows - top) {
+            let n = S.min(columns - left);
+            let to = columns * (top + y) + left;
+            if n == S {
+                output[to..to + S].copy_from_slice(&block[S * y..S * y + S]);
+            } else {
+                output[to..to + n].copy_from_slice(&block[S * y..S * y + n]);
+            }
+        }
     }
 }
 
@@ -294,6 +351,46 @@ fn table(random: &mut Random) -> [u8; 64] {
     core::array::from_fn(|_| 1 + random.below(99) as u8)
 }
 
+/// A plane back, beside the Rust's in a loop; and beside our own dequantizing
+/// and inverse of its blocks, each into a block of its own.
+macro_rules! inverse_plane {
+    ($mode:ident, $kind:ident, $stored:ident, $($name:ident $rust:ident $block:ident by $by:literal, [u8; $n:literal], $fit:expr;)*) => {$(
+        let n = $stored.coefficients.len() / 64;
+        let size = $stored.width.div_ceil($by) * $stored.height.div_ceil($by);
+        let inputs = core::slice::from_ref(&$stored);
+        let decoded = |input: &Stored, output: &mut Vec<u8>| {
+            black_box(jpeg_block::$name(
+                &input.coefficients,
+                input.width,
+                input.height,
+                &input.quant,
+                output,
+            ))
+            .expect("no refusal");
+        };
+        $mode.run_blocks(stringify!($name), $kind, n, inputs, vec![0; size], $rust, decoded);
+        if let Mode::Time(_) = $mode {
+            $mode.run_blocks(
+                concat!(stringify!($name), "/", stringify!($block)),
+                $kind,
+                n,
+                inputs,
+                vec![0; size],
+                |input, _| {
+                    for stored in input.coefficients.chunks(64) {
+                        let (mut products, mut samples) = ([0; 64], [0; $n]);
+                        jpeg_block::dequantize(stored, &input.quant, &mut products)
+                            .expect("no refusal");
+                        jpeg_block::$block(&$fit(&products), &mut samples).expect("no refusal");
+                        black_box(&samples);
+                    }
+                },
+                decoded,
+            );
+        }
+    )*};
+}
+
 macro_rules! inverse {
     ($mode:ident, $($name:ident $rust:ident $t:ty => [$s:ty; $n:literal];)*) => {$(
         for (kind, inputs) in coefficients::<$t>() {
@@ -393,6 +490,27 @@ fn main() {
                 },
                 coded,
             );
+        }
+    }
+    for (kind, width, height) in [
+        ("64x64", 64, 64),
+        ("640x480", 640, 480),
+        ("2048x2048", 2048, 2048),
+    ] {
+        let coefficients = cut(&any_plane(&mut Random(SEED), width, height))
+            .iter()
+            .flat_map(|block| fdct::fdct_quantize(block, &K1))
+            .collect();
+        let stored = Stored {
+            coefficients,
+            width,
+            height,
+            quant: K1,
+        };
+        inverse_plane! { mode, kind, stored,
+            islow_plane rust_islow_plane islow_block_i32 by 1, [u8; 64], |p: &[i32; 64]| *p;
+            islow_plane_4x4 rust_islow_plane_4x4 islow_block_4x4 by 2, [u8; 16], narrow;
+            islow_plane_2x2 rust_islow_plane_2x2 islow_block_2x2 by 4, [u8; 4], narrow;
         }
     }
     mode.run(

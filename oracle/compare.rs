@@ -34,7 +34,7 @@ use j2k_codec_math::jpeg::{fdct, idct};
 use j2k_encoder::Divisors;
 use jpeg_block::raw;
 use numbers::{ends, least, most, powers, Number, Random, SEED};
-use planes::{cut, every_size, planes_from, Plane};
+use planes::{any_coded, any_plane, cut, every_size, sizes_from, together, Coded};
 use std::fmt::Debug;
 use std::time::{Duration, Instant};
 use stored::{pairs_of_blocks_from, stored_blocks_from, Pair, Stored};
@@ -305,17 +305,22 @@ fn coefficient(block: &[u8], quantizer: u8, natural: usize, out: &mut [i16]) -> 
     }
 }
 
-fn plane_forward(
-    samples: &[u8],
+/// A call on a plane: its input, width, height, table and output.
+type PlaneCall<A, S> =
+    unsafe extern "C" fn(*const A, usize, usize, usize, *const u8, usize, *mut S, usize) -> u32;
+
+fn call_plane<A, S>(
+    f: PlaneCall<A, S>,
+    input: &[A],
     (width, height): (usize, usize),
     quant: &[u8],
-    out: &mut [i16],
+    out: &mut [S],
 ) -> u32 {
     // SAFETY: all are slices, and an exclusive one overlaps no other.
     unsafe {
-        raw::jpeg_block_fdct_quantize_plane(
-            samples.as_ptr(),
-            samples.len(),
+        f(
+            input.as_ptr(),
+            input.len(),
             width,
             height,
             quant.as_ptr(),
@@ -588,46 +593,47 @@ impl Compare {
         );
     }
 
-    /// Every size and every length around the right ones; a size with more than
-    /// 2^16 samples only with an output of 0.
-    fn plane_lengths(tally: &mut Tally) {
-        let zeros = vec![0; (1 << 16) + 1];
+    /// Every size and every length around the right ones: `lengths` has those of
+    /// the input and of the output, `number` the refusal of an input. A size with
+    /// an input of more than 2^16 places only with an output of 0.
+    fn plane_lengths<A: Copy + Default, S: Place>(
+        tally: &mut Tally,
+        number: u32,
+        f: PlaneCall<A, S>,
+        lengths: impl Fn(usize, usize) -> (usize, usize),
+    ) {
+        let (zeros, table) = (vec![A::default(); (1 << 16) + 1], [0; 65]);
         for width in MEASURES {
             for height in MEASURES {
                 let sized = (1..=4096).contains(&width) && (1..=4096).contains(&height);
-                let area = width.wrapping_mul(height);
-                let n = if sized {
-                    64 * planes::blocks(width) * planes::blocks(height)
+                let (n, m) = if sized {
+                    lengths(width, height)
                 } else {
-                    64
+                    (width.wrapping_mul(height), 64)
                 };
-                let small = area.min(1 << 16);
-                for samples in [0, small.saturating_sub(1), small, small + 1] {
+                let small = n.min(1 << 16);
+                for input in [0, small.saturating_sub(1), small, small + 1] {
                     for quant in [0, 63, 64, 65] {
-                        for out in [0, n - 1, n, n + 1] {
-                            let number = if !sized {
+                        for out in [0, m - 1, m, m + 1] {
+                            let expected = if !sized {
                                 8
-                            } else if samples != area {
-                                9
+                            } else if input != n {
+                                number
                             } else if quant != 64 {
                                 2
-                            } else if out != n {
+                            } else if out != m {
                                 3
                             } else {
                                 0
                             };
-                            let out = if area > 1 << 16 { 0 } else { out };
+                            let out = if n > 1 << 16 { 0 } else { out };
                             tally.length(
-                                number,
+                                expected,
                                 out,
-                                (width, height, samples, quant, out),
-                                |to: &mut [i16]| {
-                                    plane_forward(
-                                        &zeros[..samples],
-                                        (width, height),
-                                        &zeros[..quant],
-                                        to,
-                                    )
+                                (width, height, input, quant, out),
+                                |to: &mut [S]| {
+                                    let size = (width, height);
+                                    call_plane(f, &zeros[..input], size, &table[..quant], to)
                                 },
                             );
                         }
@@ -637,24 +643,26 @@ impl Compare {
         }
     }
 
-    /// Every plane of one list against the Rust's coefficients of its blocks.
-    fn planes(&mut self) {
-        let mut tally = Tally::new("fdct_quantize_plane");
-        Self::plane_lengths(&mut tally);
+    /// Planes of every size first, then of random ones; `differs` says what is
+    /// not as expected in one.
+    fn plane(
+        &mut self,
+        tally: Tally,
+        differs: impl Fn(&mut Random, (usize, usize), &Table) -> Option<String> + 'static,
+    ) {
         let first = self.seed;
         let try_list = Box::new(move |seed, tally: &mut Tally| {
-            let list = if seed == first {
-                every_size(seed)
-            } else {
-                planes_from(seed, PLANES)
-            };
             let mut random = Random(seed);
-            for plane in list {
+            let sizes = if seed == first {
+                every_size()
+            } else {
+                sizes_from(&mut random, PLANES)
+            };
+            for (width, height) in sizes {
                 let quant = any_table(&mut random);
                 tally.cases += 1;
-                if let Some(what) = plane_difference(&plane, &quant) {
+                if let Some(what) = differs(&mut random, (width, height), &quant) {
                     if tally.differences == 0 {
-                        let Plane { width, height, .. } = plane;
                         println!("{}: {width} x {height}: {what}", tally.name);
                     }
                     tally.differences += 1;
@@ -662,6 +670,110 @@ impl Compare {
             }
         });
         self.functions.push(Function { tally, try_list });
+    }
+
+    /// A plane inverse with so many samples for a block's side, `by` of the
+    /// plane's to one of them; `block` gives a block's samples by the Rust.
+    fn inverse_plane(
+        &mut self,
+        name: &'static str,
+        (side, by): (usize, usize),
+        f: PlaneCall<i16, u8>,
+        block: impl Fn(&[i32; 64]) -> Vec<u8> + 'static,
+    ) {
+        let mut tally = Tally::new(name);
+        let shown =
+            move |(width, height): (usize, usize)| (width.div_ceil(by), height.div_ceil(by));
+        Self::plane_lengths(&mut tally, 1, f, |width, height| {
+            let (columns, rows) = shown((width, height));
+            let blocks = planes::blocks(width) * planes::blocks(height);
+            (64 * blocks, columns * rows)
+        });
+        self.plane(tally, move |random, size, quant| {
+            let coded = any_coded(random, size.0, size.1);
+            let (columns, rows) = shown(size);
+            let mut out = Lent::new(columns * rows);
+            let status = call_plane(f, &coded.coefficients, size, quant, out.places());
+            if status != 0 {
+                return Some(format!("refused {status}"));
+            }
+            if !out.guards() {
+                return Some("wrote beside the output".to_string());
+            }
+            let blocks: Vec<Vec<u8>> = coded
+                .coefficients
+                .chunks(64)
+                .map(|c| {
+                    let c = c.try_into().expect("64 coefficients");
+                    block(&stored::dequantized((c, *quant)))
+                })
+                .collect();
+            let expected = together(&blocks, side, planes::blocks(size.0), (columns, rows));
+            plane_difference(&coded, quant, out.held(), &expected, columns, side)
+        });
+    }
+
+    fn planes(&mut self) {
+        let mut tally = Tally::new("fdct_quantize_plane");
+        let f = raw::jpeg_block_fdct_quantize_plane;
+        Self::plane_lengths(&mut tally, 9, f, |width, height| {
+            let blocks = planes::blocks(width) * planes::blocks(height);
+            (width * height, 64 * blocks)
+        });
+        self.plane(tally, move |random, size, quant| {
+            let plane = any_plane(random, size.0, size.1);
+            let blocks = cut(&plane);
+            let mut out = Lent::new(64 * blocks.len());
+            let status = call_plane(f, &plane.samples, size, quant, out.places());
+            if status != 0 {
+                return Some(format!("refused {status}"));
+            }
+            if !out.guards() {
+                return Some("wrote beside the output".to_string());
+            }
+            for (k, (block, here)) in blocks.iter().zip(out.held().chunks(64)).enumerate() {
+                let expected = fdct::fdct_quantize(block, quant);
+                if here != expected {
+                    return Some(format!(
+                        "block {k} {block:?} under {quant:?}: here {here:?}, expected {expected:?}"
+                    ));
+                }
+            }
+            None
+        });
+        self.inverse_plane(
+            "islow_plane",
+            (8, 1),
+            raw::jpeg_block_islow_plane,
+            |products| {
+                let mut samples = [0; 64];
+                idct::islow_block(products, &mut samples);
+                samples.to_vec()
+            },
+        );
+        let narrow = |products: &[i32; 64]| {
+            products.map(|p| p.clamp(i32::from(i16::MIN), i32::from(i16::MAX)) as i16)
+        };
+        self.inverse_plane(
+            "islow_plane_4x4",
+            (4, 2),
+            raw::jpeg_block_islow_plane_4x4,
+            move |products| {
+                let mut samples = [0; 16];
+                idct::islow_block_4x4(&narrow(products), &mut samples);
+                samples.to_vec()
+            },
+        );
+        self.inverse_plane(
+            "islow_plane_2x2",
+            (2, 4),
+            raw::jpeg_block_islow_plane_2x2,
+            move |products| {
+                let mut samples = [0; 4];
+                idct::islow_block_2x2(&narrow(products), &mut samples);
+                samples.to_vec()
+            },
+        );
     }
 
     fn divisors(&mut self) {
@@ -837,28 +949,23 @@ impl Compare {
     }
 }
 
-/// What is not as expected in a plane's coefficients: the first block that
-/// differs, its samples and table, and both answers.
-fn plane_difference(plane: &Plane, quant: &Table) -> Option<String> {
-    let blocks = cut(plane);
-    let mut out = Lent::new(64 * blocks.len());
-    let size = (plane.width, plane.height);
-    let status = plane_forward(&plane.samples, size, quant, out.places());
-    if status != 0 {
-        return Some(format!("refused {status}"));
-    }
-    if !out.guards() {
-        return Some("wrote beside the output".to_string());
-    }
-    for (k, (block, here)) in blocks.iter().zip(out.held().chunks(64)).enumerate() {
-        let expected = fdct::fdct_quantize(block, quant);
-        if here != expected {
-            return Some(format!(
-                "block {k} {block:?} under {quant:?}: here {here:?}, expected {expected:?}"
-            ));
-        }
-    }
-    None
+/// The first sample of a decoded plane that is not as expected, with its block.
+fn plane_difference(
+    coded: &Coded,
+    quant: &Table,
+    here: &[u8],
+    expected: &[u8],
+    columns: usize,
+    side: usize,
+) -> Option<String> {
+    let at = here.iter().zip(expected).position(|(a, b)| a != b)?;
+    let (x, y) = (at % columns, at / columns);
+    let k = planes::blocks(coded.width) * (y / side) + x / side;
+    let block = &coded.coefficients[64 * k..64 * (k + 1)];
+    Some(format!(
+        "sample ({x}, {y}): here {}, expected {}; block {k} {block:?} under {quant:?}",
+        here[at], expected[at]
+    ))
 }
 
 fn argument(at: usize, default: u64) -> u64 {

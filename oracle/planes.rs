@@ -1,4 +1,5 @@
-//! The planes that the plane calls are asked for, and how the harness cuts them.
+//! The planes that the plane calls are asked for, and how the harness cuts them
+//! and puts them together.
 
 use crate::Random;
 
@@ -40,21 +41,19 @@ fn any_measure(random: &mut Random) -> usize {
     1 + random.below(most) as usize
 }
 
-/// Some random planes; none has more than 2^20 samples.
-pub fn planes_from(seed: u64, count: usize) -> Vec<Plane> {
-    let mut random = Random(seed);
+/// Some random sizes; none has more than 2^20 samples.
+pub fn sizes_from(random: &mut Random, count: usize) -> Vec<(usize, usize)> {
     (0..count)
         .map(|_| {
-            let width = any_measure(&mut random);
-            let height = any_measure(&mut random).min((1 << 20) / width);
-            any_plane(&mut random, width, height)
+            let width = any_measure(random);
+            let height = any_measure(random).min((1 << 20) / width);
+            (width, height)
         })
         .collect()
 }
 
 /// Every size from 1 x 1 to 40 x 40, smaller ones first, and the largest ones.
-pub fn every_size(seed: u64) -> Vec<Plane> {
-    let mut random = Random(seed);
+pub fn every_size() -> Vec<(usize, usize)> {
     let mut sizes = Vec::new();
     for height in 1..=40 {
         for width in 1..=40 {
@@ -63,9 +62,6 @@ pub fn every_size(seed: u64) -> Vec<Plane> {
     }
     sizes.extend([(4096, 1), (1, 4096), (4095, 3), (3, 4089), (4096, 4096)]);
     sizes
-        .into_iter()
-        .map(|(width, height)| any_plane(&mut random, width, height))
-        .collect()
 }
 
 /// The blocks of a plane, rows of blocks first. The plane is first made of whole
@@ -95,4 +91,63 @@ pub fn cut(plane: &Plane) -> Vec<[u8; 64]> {
         }
     }
     all
+}
+
+/// A plane's coefficients, 64 for each block.
+pub struct Coded {
+    pub width: usize,
+    pub height: usize,
+    pub coefficients: Vec<i16>,
+}
+
+/// Coefficients of every magnitude, few ones at low frequencies, or DC alone.
+pub fn any_coded(random: &mut Random, width: usize, height: usize) -> Coded {
+    let kind = random.below(4);
+    let mut coefficients = vec![0; 64 * blocks(width) * blocks(height)];
+    for block in coefficients.chunks_mut(64) {
+        match kind {
+            0 => block
+                .iter_mut()
+                .for_each(|c| *c = random.any_width(16) as i16),
+            1 => block
+                .iter_mut()
+                .for_each(|c| *c = random.any_width(8) as i16),
+            2 => {
+                block[0] = random.signed(12) as i16;
+                for _ in 0..5 {
+                    let n = 8 * random.below(3) + random.below(3);
+                    block[n as usize] = random.signed(7) as i16;
+                }
+            }
+            _ => block[0] = random.any_width(16) as i16,
+        }
+    }
+    Coded {
+        width,
+        height,
+        coefficients,
+    }
+}
+
+/// The picture that blocks of side x side samples make, `across` in a row, up to
+/// so many columns and rows.
+pub fn together(
+    blocks: &[Vec<u8>],
+    side: usize,
+    across: usize,
+    (columns, rows): (usize, usize),
+) -> Vec<u8> {
+    let mut picture: Vec<Vec<u8>> = Vec::new();
+    for row_of_blocks in blocks.chunks(across) {
+        for y in 0..side {
+            let mut row: Vec<u8> = Vec::new();
+            for block in row_of_blocks {
+                row.extend_from_slice(&block[side * y..side * (y + 1)]);
+            }
+            row.truncate(columns);
+            picture.push(row);
+        }
+    }
+    picture.truncate(rows);
+    picture.concat()
 }

@@ -1,6 +1,6 @@
 -- Lists by their elements, and the law of a loop that fills one from the front.
 -- Assumes nothing.
-use Prim.Native.Nat.{ℕ, zero, suc, _+_, _≤_, _<_}
+use Prim.Native.Nat.{ℕ, zero, suc, _+_, _-_, _≤_, _<_}
 use mathlib.Core.Path.{_≡_, refl, sym, ap, subst, _∙_}
 use mathlib.Core.Bool.{Bool, true, false, cond, not}
 use mathlib.Core.List.{List, [], _∷_, _++_, map, append-assoc, append-nil}
@@ -10,8 +10,8 @@ use native.Mathlib.Numerals.{add-one}
 use native.Mathlib.Omega.{arith}
 use borrow.Author.Tests.{eqb-true, eqb-false, eq-eqb, ne-eqb}
 use lib.Dec.{eqb}
-use lib.ListN.{length, take, set, getD, length-set, length-append, length-take, List·getD-append, List·getD-eq-default}
-use lib.Seq.{take-all, take-suc, take-suc-set, getD-at, ext-getD, getD-set-same, getD-set-other, getD-drop, paste, length-paste, take-paste, drop-paste}
+use lib.ListN.{length, take, drop, set, getD, length-set, length-append, length-take, List·getD-append, List·getD-eq-default}
+use lib.Seq.{take-all, take-suc, take-suc-set, getD-at, ext-getD, getD-set-same, getD-set-other, getD-drop, getD-take, getD-append-add, length-take-le, paste, length-paste, length-paste-head, take-paste, drop-paste}
 use Rattle.lists.specs.Tab.{tab}
 use Rattle.lists.specs.Below.{below}
 
@@ -175,3 +175,21 @@ filled-paste f m k l ys n h b e =
 pub getD-paste : {A : Type 0} (d : A) (l ys : List A) (at n i : ℕ) → at ≤ length l → n ≤ length ys → getD (paste l at ys n) (at + n + i) d ≡ getD l (at + n + i) d
 getD-paste d l ys at n i h b =
     sym (getD-drop (at + n) (paste l at ys n) i d) ∙ ap (λ (t : List _). getD t i d) (drop-paste l at ys n h b) ∙ getD-drop (at + n) l i d
+
+-- a list with a run pasted in, place by place
+module _ {A : Type 0} (d : A) (l vs : List A) (from n : ℕ) (b : from + n ≤ length l) (c : n ≤ length vs) where
+  pub paste-before : {t : ℕ} → t < from → getD (paste l from vs n) t d ≡ getD l t d
+  paste-before {t} h =
+      List·getD-append (take from l ++ take n vs) (drop (from + n) l) d t (omega (arith, length-paste-head l from vs n (omega arith) c))
+      ∙ List·getD-append (take from l) (take n vs) d t (omega (arith, length-take-le from l (omega arith))) ∙ getD-take from l t d h
+
+  pub paste-run : {t : ℕ} → t < n → getD (paste l from vs n) (from + t) d ≡ getD vs t d
+  paste-run {t} h =
+      List·getD-append (take from l ++ take n vs) (drop (from + n) l) d (from + t) (omega (arith, length-paste-head l from vs n (omega arith) c))
+      ∙ ap (λ (k : ℕ). getD (take from l ++ take n vs) (k + t) d) (sym (length-take-le from l (omega arith)))
+      ∙ getD-append-add (take from l) (take n vs) t d ∙ getD-take n vs t d h
+
+  pub paste-after : {t : ℕ} → from + n ≤ t → getD (paste l from vs n) t d ≡ getD l t d
+  paste-after {t} h =
+      let e : t ≡ from + n + (t - (from + n)) = omega arith in
+      ap (λ (k : ℕ). getD (paste l from vs n) k d) e ∙ getD-paste d l vs from n (t - (from + n)) (omega arith) c ∙ ap (λ (k : ℕ). getD l k d) (sym e)

@@ -12,3 +12,7 @@ grid w h f = tab (w * h) (λ i. f (i % w) (i / w))
 -- what stands at (x, y) of a list in rows of w
 abbrev pub at : {A : Type 0} → A → ℕ → List A → ℕ → ℕ → A
 at d w l x y = getD l (w * y + x) d
+
+-- a picture of m×m blocks b 0, b 1, .., a of them in a row: what stands at (x, y)
+unfoldable pub tiled : {A : Type 0} → A → ℕ → ℕ → (ℕ → List A) → ℕ → ℕ → A
+tiled d m a b x y = at d m (b (a * (y / m) + x / m)) (x % m) (y % m)

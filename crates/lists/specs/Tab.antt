@@ -6,3 +6,8 @@ use mathlib.Core.List.{List, [], _∷_, _++_}
 unfoldable pub tab : {A : Type 0} → ℕ → (ℕ → A) → List A
 tab zero f = []
 tab (suc n) f = tab n f ++ (f n ∷ [])
+
+-- lists one after the other: f 0, f 1, .. f (n - 1)
+unfoldable pub inTurn : {A : Type 0} → ℕ → (ℕ → List A) → List A
+inTurn zero f = []
+inTurn (suc n) f = inTurn n f ++ f n

@@ -1,1 +1,6 @@
 pub mod Coding
+pub mod Placing
+pub mod Scales
+pub mod Decoding
+pub mod Recoded
+pub mod Strips

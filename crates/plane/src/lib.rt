@@ -1,7 +1,9 @@
-// Whole planes (document 02, card 1): the canonical coefficients of every block.
+// Whole planes (document 02, cards 1 and 2): the canonical coefficients of every block, and the samples back from them.
 //
-// A plane is at most 4096 × 4096, so every index is below 2^25 and nothing overflows (`samples-most` of proofs/Coding.antt). Each block is
-// copied out of the plane, its edge repeated, and coded into its own 64 places of the output: no more than one block is held.
+// A plane is at most 4096 × 4096, so every index is below 2^25 and nothing overflows (`samples-most` of proofs/Coding.antt). Forward each
+// block is copied out of the plane, its edge repeated, and coded into its own 64 places of the output; back each is decoded to a buffer
+// and copied to the picture (`decode`): no more than one block is held.
+mod decode;
 mod runs;
 
 ghost use mathlib.Core.Path.{_≡_};
@@ -12,12 +14,13 @@ ghost use Rattle.refusals.specs.Refusals.{status, written};
 ghost use Rattle.forward.specs.Canonical.{coefficients};
 ghost use Rattle.plane.specs.Plane.{blocks, sampleAt, blockAt, blockOf, measured, planeCoefficients, forwardTests};
 ghost use Rattle.plane.specs.Ready.{PlaneOf};
+ghost use Rattle.plane.specs.Scale.{full, half, quarter, planeSamples, planeInverseTests};
 use crate::runs::copy_run;
 use fdct::widen;
 use fdct::write_block;
 
 // A width or height of 1 to 4096.
-fn is_measured(n: usize) -> bool
+pub fn is_measured(n: usize) -> bool
     ensures { λ r. ⌜ r ≡ measured n ⌝ }
 {
     if n < 1 {
@@ -168,4 +171,46 @@ pub fn fdct_quantize_plane(
     }
     code_plane(samples, width, height, quant, out);
     0
+}
+
+// The plane inverse with 8 samples per block side.
+pub fn islow_plane(
+    coefficients: &[i16],
+    width: usize,
+    height: usize,
+    quant: &[u8],
+    out: &mut [u8],
+) -> u32
+    ensures { λ r. ⌜ r ≡ status (planeInverseTests full (now (coefficients .entry)) width height (now (quant .entry)) (now (out .entry))) ⌝ }
+    ensures { λ r. ⌜ now (out .exit) ≡ written r (planeSamples full (now (coefficients .entry)) width height (now (quant .entry))) (now (out .entry)) ⌝ }
+{
+    crate::decode::inverse(1, coefficients, width, height, quant, out)
+}
+
+// With 4, at half width and height.
+pub fn islow_plane_4x4(
+    coefficients: &[i16],
+    width: usize,
+    height: usize,
+    quant: &[u8],
+    out: &mut [u8],
+) -> u32
+    ensures { λ r. ⌜ r ≡ status (planeInverseTests half (now (coefficients .entry)) width height (now (quant .entry)) (now (out .entry))) ⌝ }
+    ensures { λ r. ⌜ now (out .exit) ≡ written r (planeSamples half (now (coefficients .entry)) width height (now (quant .entry))) (now (out .entry)) ⌝ }
+{
+    crate::decode::inverse(2, coefficients, width, height, quant, out)
+}
+
+// With 2, at a quarter of them.
+pub fn islow_plane_2x2(
+    coefficients: &[i16],
+    width: usize,
+    height: usize,
+    quant: &[u8],
+    out: &mut [u8],
+) -> u32
+    ensures { λ r. ⌜ r ≡ status (planeInverseTests quarter (now (coefficients .entry)) width height (now (quant .entry)) (now (out .entry))) ⌝ }
+    ensures { λ r. ⌜ now (out .exit) ≡ written r (planeSamples quarter (now (coefficients .entry)) width height (now (quant .entry))) (now (out .entry)) ⌝ }
+{
+    crate::decode::inverse(4, coefficients, width, height, quant, out)
 }

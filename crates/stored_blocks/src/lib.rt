@@ -21,7 +21,7 @@ pub struct Answer {
 }
 
 // A coefficient times its divisor.
-fn product(coefficient: i16, quantizer: u8) -> i32
+pub fn product(coefficient: i16, quantizer: u8) -> i32
     ensures { λ r. ⌜ r ≡ coefficient *ℤ pos (divisorOf quantizer) ⌝ }
     ensures { λ r. ⌜ natAbs r ≤ 8355840 ⌝ }
 {

@@ -1,16 +1,11 @@
 -- `stored_blocks::write_products` meets its contract. Assumes nothing.
 use Prim.Native.Nat.{_≤_, _-_}
-use mathlib.Core.Path.{refl, _∙_}
+use mathlib.Core.Path.{refl}
 use native.Mathlib.Omega.{arith}
 use borrow.Author.Needs.{needs}
-use lib.ListN.{getD}
-use lib.IntN.{pos, _*ℤ_}
-use mir.Syntax.{w16, w32}
-use mir.ValLaws.{toZ-ofZ}
-use Rattle.integers.proofs.Bound.{small-fits}
 use Rattle.lists.proofs.Tab.{Filled, none, more, all}
-use Rattle.quantize.specs.Quantize.{divisorOf}
 use Rattle.stored_blocks.specs.Dequantize.{product, dequantized}
+use Rattle.stored_blocks.proofs.Times.{product-at}
 use Rattle.stored_blocks.proofs.write_products.Statement.{statement}
 use Rattle.stored_blocks.proofs.write_products.Tie as tie
 
@@ -21,13 +16,9 @@ abbrev μ-loop : tie.MeasureT-loop
 μ-loop coefficients quant out₀ n₀ out n = 64 - n
 
 loop-again : tie.Need-loop-again Inv-loop μ-loop
-unfolding product
 loop-again c =
     let turn = c .before .before .before .before in
-    let s = turn .before .before in
-    let r = c .product in
-    let x = toZ-ofZ w16 (getD (s .args .coefficients .now) (turn .loop .n) (pos 0)) (record { sfits = c .before .before .product-arg .given }) in
-    let value = toZ-ofZ w32 (r .result) (small-fits w32 (r .result) (omega (arith, r .ensures .1))) ∙ r .ensures .0 ∙ (λ i. x i *ℤ pos (divisorOf (getD (s .args .quant .now) (turn .loop .n) 0))) in
+    let value = product-at _ _ (turn .loop .n) (record { sfits = c .before .before .product-arg .given }) (c .product .ensures) in
     (omega arith, more _ 64 _ _ _ _ (turn .loop .inv .1) (omega arith) refl value)
 
 returns : tie.Need-returns Inv-loop μ-loop
