@@ -80,6 +80,21 @@ pub fn islow_block_top_half(input: &[i16], output: &mut [u8]) -> u32
     0
 }
 
+// The input in an array of this crate's own: of that the compiler knows that it overlaps no column, and works on several columns at once. Of
+// a slice it knows so only where it sees where the slice comes from, which it does not in a function that two others call.
+fn copied(input: &[i32]) -> [i32; 64]
+    requires { ⌜ length (now input) ≡ 64 ⌝ }
+    ensures { λ r. ⌜ r ≡ now (input .entry) ⌝ }
+{
+    let mut block = [0i32; 64];
+    let mut i = 0;
+    while i < 64 {
+        block[i] = input[i];
+        i += 1;
+    }
+    block
+}
+
 // The 8×8 block of 32-bit numbers.
 pub fn islow_block_i32(input: &[i32], output: &mut [u8]) -> u32
     ensures { λ r. ⌜ r ≡ status (inverseTests 64 (now (input .entry)) (now (output .entry))) ⌝ }
@@ -91,13 +106,14 @@ pub fn islow_block_i32(input: &[i32], output: &mut [u8]) -> u32
     if output.len() != 64 {
         return 3;
     }
-    if all_fit(input, 64) {
+    let block = copied(input);
+    if all_fit(&block, 64) {
         let mut w = [[0i32; 8]; 8];
-        columns_as_i16(input, &mut w);
+        columns_as_i16(&block, &mut w);
         rows(&w, output);
         return 0;
     }
-    let w = columns_i32(input, 8);
+    let w = columns_i32(&block, 8);
     rows(&w, output);
     0
 }
