@@ -324,8 +324,9 @@ static void dequantized(void)
 static void screened(void)
 {
     static const char name[] = "jpeg_block_screen";
-    static const struct { int value, quantizer, yes; } cases[] = {
-        {0, 0, 1}, {1023, 1, 1}, {1024, 1, 0}, {-1024, 0, 1}, {-1025, 0, 0}, {-128, 8, 1}, {128, 8, 0}, {-32768, 255, 0},
+    static const struct { int place, value, quantizer, yes; } cases[] = {
+        {0, 0, 0, 1}, {0, 5, 225, 1}, {0, 6, 225, 0}, {0, 1016, 1, 1}, {0, 1017, 0, 0}, {0, -1024, 0, 1}, {0, -1025, 1, 0},
+        {63, 837, 1, 1}, {63, 838, 1, 0}, {63, -837, 0, 1}, {63, -838, 0, 0}, {63, -32768, 255, 0},
     };
     int16_t coefficients[65] = {0};
     uint8_t quant[65] = {0};
@@ -339,10 +340,11 @@ static void screened(void)
     REFUSED(name, jpeg_block_screen(coefficients, 64, quant, 64, output, 0), 3);
     REFUSED(name, jpeg_block_screen(coefficients, 64, quant, 64, output, 2), 3);
     for (i = 0; i < sizeof cases / sizeof *cases; i++) {
-        coefficients[63] = (int16_t)cases[i].value;
-        quant[63] = (uint8_t)cases[i].quantizer;
+        coefficients[cases[i].place] = (int16_t)cases[i].value;
+        quant[cases[i].place] = (uint8_t)cases[i].quantizer;
         expect(jpeg_block_screen(coefficients, 64, quant, 64, output, 1) == 0, name, "is refused");
         expect(output[0] == cases[i].yes, name, "a yes or a no");
+        coefficients[cases[i].place] = 0;
     }
     WROTE(name, 1);
 }

@@ -416,8 +416,10 @@ inverse_plane! {
     islow_plane_2x2, jpeg_block_islow_plane_2x2;
 }
 
-/// Whether every such product lies in -1024..=1023. Refusals: 1, a block not of
-/// 64 places; 2, a table not of 64.
+/// Whether each coefficient is what some whole number rounds to under its
+/// quantizer, from the least to the greatest scaled sum that 8-bit blocks have
+/// at that frequency. It judges frequencies singly and says nothing of whole
+/// blocks. Refusals: 1, a block not of 64 places; 2, a table not of 64.
 #[inline]
 pub fn screen(coefficients: &[i16], quant: &[u8]) -> Result<bool, u32> {
     let mut place = [0];

@@ -86,7 +86,9 @@ uint32_t jpeg_block_fdct_quantize_guarded(const uint8_t *block, size_t block_len
 /* Each coefficient times its quantizer; out_len 64. Refusals 1, 2, 3. */
 uint32_t jpeg_block_dequantize(const int16_t *coefficients, size_t coefficients_len, const uint8_t *quant, size_t quant_len, int32_t *out, size_t out_len);
 
-/* Into yes[0]: 1 when every such product lies in -1024 to 1023, else 0; yes_len 1. Refusals 1, 2, 3. */
+/* Into yes[0]: 1 when each coefficient is what some whole number rounds to under its quantizer, from the least to the greatest scaled sum
+   that 8-bit blocks have at that frequency, else 0; yes_len 1. It judges frequencies singly and says nothing of whole blocks. What
+   jpeg_block_fdct_quantize writes gives 1. Refusals 1, 2, 3. */
 uint32_t jpeg_block_screen(const int16_t *coefficients, size_t coefficients_len, const uint8_t *quant, size_t quant_len, uint8_t *yes, size_t yes_len);
 
 /* Into yes[0]: 1 when all 64 coefficients are equal, else 0; yes_len 1. Refusals 1 for either block, 3. */

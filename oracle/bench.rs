@@ -33,6 +33,24 @@ const ALL_ROUNDS_NS: f64 = 2e9;
 /// few of them, and the median is of an undisturbed one.
 const ROUND_NS: f64 = 50_000.0;
 
+/// The least 2cd + d and the greatest 2cd - d of a coefficient c that passes the
+/// screen under the divisor d, for each frequency.
+static LOW: [i32; 64] = [
+    -2_048, -1_848, -1_884, -1_848, -2_040, -1_848, -1_884, -1_848, -1_848, -1_674, -1_707, -1_674,
+    -1_848, -1_674, -1_707, -1_674, -1_884, -1_707, -1_741, -1_707, -1_884, -1_707, -1_741, -1_707,
+    -1_848, -1_674, -1_707, -1_674, -1_848, -1_674, -1_707, -1_674, -2_040, -1_848, -1_884, -1_848,
+    -2_040, -1_848, -1_884, -1_848, -1_848, -1_674, -1_707, -1_674, -1_848, -1_674, -1_707, -1_674,
+    -1_884, -1_707, -1_741, -1_707, -1_884, -1_707, -1_741, -1_707, -1_848, -1_674, -1_707, -1_674,
+    -1_848, -1_674, -1_707, -1_674,
+];
+static HIGH: [i32; 64] = [
+    2_032, 1_848, 1_884, 1_848, 2_040, 1_848, 1_884, 1_848, 1_848, 1_674, 1_707, 1_674, 1_848,
+    1_674, 1_707, 1_674, 1_884, 1_707, 1_741, 1_707, 1_884, 1_707, 1_741, 1_707, 1_848, 1_674,
+    1_707, 1_674, 1_848, 1_674, 1_707, 1_674, 2_040, 1_848, 1_884, 1_848, 2_040, 1_848, 1_884,
+    1_848, 1_848, 1_674, 1_707, 1_674, 1_848, 1_674, 1_707, 1_674, 1_884, 1_707, 1_741, 1_707,
+    1_884, 1_707, 1_741, 1_707, 1_848, 1_674, 1_707, 1_674, 1_848, 1_674, 1_707, 1_674,
+];
+
 /// The Rust's functions, each under a name that a profile shows.
 macro_rules! rust {
     ($($name:ident($($arg:ident: $t:ty),*) $body:block)*) => {$(
@@ -124,8 +142,9 @@ rust! {
     }
     rust_screen(input: &([i16; 64], [u8; 64]), output: &mut bool) {
         *output = (0..64).all(|n| {
-            let product = i32::from(input.0[n]) * i32::from(input.1[n].max(1));
-            (-1_024..=1_023).contains(&product)
+            let d = i32::from(input.1[n].max(1));
+            let twice = 2 * i32::from(input.0[n]) * d;
+            twice - d <= HIGH[n] && twice + d >= LOW[n]
         });
     }
     rust_same(input: &([i16; 64], [i16; 64]), output: &mut bool) {
@@ -565,12 +584,15 @@ fn main() {
                 black_box(jpeg_block::dequantize(coefficients, quant, output)).expect("no refusal");
             },
         );
-        // All in range, so that every place is looked at.
-        let narrow: Vec<_> = blocks.iter().map(|b| (*b, [1; 64])).collect();
+        // All pass, so that every place is looked at.
+        let passing: Vec<_> = blocks
+            .iter()
+            .map(|b| (b.map(|c| c.clamp(-837, 837)), [1; 64]))
+            .collect();
         mode.run(
             "screen",
             kind,
-            &narrow,
+            &passing,
             false,
             rust_screen,
             |(coefficients, quant), output| {

@@ -37,7 +37,9 @@ use numbers::{ends, least, most, powers, Number, Random, SEED};
 use planes::{any_coded, any_plane, cut, every_size, sizes_from, together, Coded};
 use std::fmt::Debug;
 use std::time::{Duration, Instant};
-use stored::{pairs_of_blocks_from, stored_blocks_from, Pair, Stored};
+use stored::{
+    coded_blocks_from, pairs_of_blocks_from, screen_ends_from, stored_blocks_from, Pair, Stored,
+};
 
 /// Inputs in one list: more than the boundary ones of any function.
 const LIST: usize = 4_000;
@@ -919,7 +921,7 @@ impl Compare {
         );
     }
 
-    /// Not in the published Rust: stored.rs computes these in 64-bit integers.
+    /// Not in the published Rust: stored.rs computes these in its own way.
     fn stored(&mut self) {
         let tally = Self::lengths2("dequantize", (-3, 5), (2, 64), raw::jpeg_block_dequantize);
         self.inputs(
@@ -933,7 +935,12 @@ impl Compare {
         let tally = Self::lengths2("screen", (-3, 5), (2, 1), raw::jpeg_block_screen);
         self.inputs(
             tally,
-            |seed| stored_blocks_from(seed, LIST),
+            |seed| {
+                let mut all = screen_ends_from(seed);
+                all.extend(stored_blocks_from(seed, LIST));
+                all.extend(coded_blocks_from(seed, LIST));
+                all
+            },
             |(coefficients, quant): &Stored| {
                 guarded(|to| call2(raw::jpeg_block_screen, coefficients, quant, to))
             },

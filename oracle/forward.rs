@@ -19,7 +19,7 @@ const QUANTIZERS: [u8; 16] = [0, 1, 2, 3, 4, 5, 7, 8, 15, 16, 17, 64, 127, 128, 
 
 /// The basis of frequency `natural` at a place of the block, mirrored from its
 /// quarter.
-fn basis(natural: usize, place: usize) -> i64 {
+pub fn basis(natural: usize, place: usize) -> i64 {
     let (u, v) = (natural % 8, natural / 8);
     let (x, y) = (place % 8, place / 8);
     let index = 16 * natural + 4 * y.min(7 - y) + x.min(7 - x);

@@ -21,13 +21,15 @@ use j2k_codec_math::jpeg::{fdct, idct, ZIGZAG};
 use j2k_encoder::Divisors;
 use numbers::{ends, least, most, powers, Number, Random, SEED};
 use std::path::PathBuf;
-use stored::{dequantized, pairs_of_blocks, same, screened, stored_blocks};
+use stored::{
+    coded_blocks, dequantized, pairs_of_blocks, same, screen_ends, screened, stored_blocks,
+};
 
 const HEADER: usize = 256;
 
 /// Whose answers a file holds.
 const ORACLE: &str = "the answers of frames-sg/j2k at 0c61cb298a built with rustc";
-const HARNESS: &str = "the answers of oracle/stored.rs, in 64-bit integers";
+const HARNESS: &str = "the answers of oracle/stored.rs, by a computation of its own";
 const WRONG: &str = "answers of islow_block of frames-sg/j2k at 0c61cb298a, \
                      but sample 63 of the second record is changed";
 
@@ -523,6 +525,9 @@ fn guarded_entries(to: &mut Answers) {
 /// Not the oracle's: see stored.rs.
 fn stored_entries(to: &mut Answers) {
     let blocks = stored_blocks(1_400);
+    let mut screened_ones = screen_ends();
+    screened_ones.extend(&blocks[..400]);
+    screened_ones.extend(coded_blocks(2_600).into_iter().step_by(13));
     to.save_from(
         HARNESS,
         "dequantize",
@@ -535,7 +540,7 @@ fn stored_entries(to: &mut Answers) {
         HARNESS,
         "screen",
         "coefficients [i16; 64], quant [u8; 64]; answer u8, 1 for yes",
-        &blocks,
+        &screened_ones,
         screened,
         0,
     );

@@ -2,12 +2,16 @@
 //! are asked for, and the answers.
 //!
 //! The published Rust of the oracle has none of the three. Their answers are
-//! computed here, by the rule of document 01 ("Added by design") in 64-bit
-//! integers, and independently of the rewrite, which works in 32 bits and ends
-//! at the first place that decides.
+//! computed here, independently of the rewrite: products by the rule of
+//! document 01 ("Added by design") in 64-bit integers, where the rewrite works
+//! in 32; the screen by the rule of document 02, card 3, searching the sums of
+//! a frequency in 128-bit integers, where the rewrite compares a product with a
+//! limit.
 
-use crate::forward::Table;
+use crate::forward::{basis, whole_blocks_from, Table};
 use crate::{Random, SEED};
+use j2k_codec_math::jpeg::fdct;
+use std::sync::OnceLock;
 
 pub type Coefficients = [i16; 64];
 
@@ -15,8 +19,8 @@ pub type Coefficients = [i16; 64];
 pub type Stored = (Coefficients, Table);
 pub type Pair = (Coefficients, Coefficients);
 
-/// The products at which the screen's word changes.
-const EDGES: [i64; 4] = [-1_025, -1_024, 1_023, 1_024];
+/// The quantizers under which the screen's ends are tried at every frequency.
+const EDGES: [u8; 7] = [0, 1, 2, 3, 17, 225, 255];
 
 fn divisor(quantizer: u8) -> i64 {
     i64::from(quantizer).max(1)
@@ -30,11 +34,68 @@ pub fn dequantized(stored: Stored) -> [i32; 64] {
     products(stored).map(|p| i32::try_from(p).expect("a product of 32 bits"))
 }
 
-pub fn screened(stored: Stored) -> u8 {
-    let all = products(stored);
-    let least = all.into_iter().min().expect("64 products");
-    let most = all.into_iter().max().expect("64 products");
-    u8::from(least >= -1_024 && most <= 1_023)
+/// The least and the greatest S of a frequency over all 8-bit blocks: no term
+/// depends on another, so each is tried with every sample by itself.
+fn low_and_high(natural: usize) -> (i128, i128) {
+    let terms = |place| (0..=255).map(move |s| (s - 128) * i128::from(basis(natural, place)));
+    let low = (0..64).map(|place| terms(place).min().expect("256 terms"));
+    let high = (0..64).map(|place| terms(place).max().expect("256 terms"));
+    (low.sum(), high.sum())
+}
+
+/// S / (d * 2^32) rounded to nearest, halves away from zero.
+fn rounded(sum: i128, quantizer: u8) -> i128 {
+    let unit = i128::from(divisor(quantizer)) << 32;
+    sum.signum() * ((2 * sum.abs() + unit) / (2 * unit))
+}
+
+/// Whether some sum from low to high rounds to the coefficient. Rounding never
+/// falls while the sum rises, so the first sum that rounds to it or above is
+/// found by halving.
+fn passes((low, high): (i128, i128), quantizer: u8, coefficient: i64) -> bool {
+    let wanted = i128::from(coefficient);
+    let (mut first, mut last) = (low, high);
+    while first < last {
+        let middle = first + (last - first) / 2;
+        if rounded(middle, quantizer) >= wanted {
+            last = middle;
+        } else {
+            first = middle + 1;
+        }
+    }
+    rounded(first, quantizer) == wanted
+}
+
+/// The last coefficients that pass at a frequency under a quantizer, the least
+/// and the greatest, found step by step from 0.
+fn ends(natural: usize, quantizer: u8) -> (i64, i64) {
+    static ALL: OnceLock<Vec<(i64, i64)>> = OnceLock::new();
+    let all = ALL.get_or_init(|| {
+        let mut all = Vec::new();
+        for natural in 0..64 {
+            let sums = low_and_high(natural);
+            for quantizer in 0..=255 {
+                let last = |step| {
+                    let mut coefficient = 0;
+                    while passes(sums, quantizer, coefficient + step) {
+                        coefficient += step;
+                    }
+                    coefficient
+                };
+                all.push((last(-1), last(1)));
+            }
+        }
+        all
+    });
+    all[256 * natural + usize::from(quantizer)]
+}
+
+pub fn screened((coefficients, quant): Stored) -> u8 {
+    let pass = |n: usize| {
+        let (least, greatest) = ends(n, quant[n]);
+        (least..=greatest).contains(&i64::from(coefficients[n]))
+    };
+    u8::from((0..64).all(pass))
 }
 
 pub fn same((a, b): Pair) -> u8 {
@@ -57,12 +118,12 @@ fn quantizer(random: &mut Random) -> u8 {
     }
 }
 
-/// A block and a table whose products all lie in the screen's range.
-fn in_range(random: &mut Random) -> Stored {
+/// A block whose coefficients all pass the screen under its table.
+fn passing(random: &mut Random) -> Stored {
     let quant: Table = core::array::from_fn(|_| quantizer(random));
     let coefficients = core::array::from_fn(|n| {
-        let (low, high) = (-1_024 / divisor(quant[n]), 1_023 / divisor(quant[n]));
-        coefficient(low + random.below((high - low + 1) as u64) as i64)
+        let (least, greatest) = ends(n, quant[n]);
+        coefficient(least + random.below((greatest - least + 1) as u64) as i64)
     });
     (coefficients, quant)
 }
@@ -74,21 +135,15 @@ fn with((mut coefficients, mut quant): Stored, n: usize, value: i64, quantizer: 
     (coefficients, quant)
 }
 
-/// A divisor of the product, above 1 and at most 255.
-fn proper(product: i64, random: &mut Random) -> u8 {
-    let all: Vec<u8> = (2..=255).filter(|&q| product % i64::from(q) == 0).collect();
-    all[random.below(all.len() as u64) as usize]
-}
-
-/// Each edge of the screen at each place, under the quantizers 0 and 1 and one
-/// more, with all other products in range.
+/// At each frequency, on both sides, the last coefficient that passes and the
+/// first that does not, in a block whose others pass.
 fn edges(random: &mut Random) -> Vec<Stored> {
     let mut all = Vec::new();
     for n in 0..64 {
-        for product in EDGES {
-            for quantizer in [0, 1, proper(product, random)] {
-                let value = product / divisor(quantizer);
-                all.push(with(in_range(random), n, value, quantizer));
+        for quantizer in EDGES {
+            let (least, greatest) = ends(n, quantizer);
+            for value in [least - 1, least, greatest, greatest + 1] {
+                all.push(with(passing(random), n, value, quantizer));
             }
         }
     }
@@ -102,7 +157,7 @@ fn extremes(random: &mut Random) -> Vec<Stored> {
     let mut all = Vec::new();
     for n in 0..64 {
         for end in ends {
-            all.push(with(in_range(random), n, end, 255));
+            all.push(with(passing(random), n, end, 255));
         }
     }
     for quantizer in [0, 1, 254, 255] {
@@ -123,22 +178,21 @@ pub fn stored_blocks(count: usize) -> Vec<Stored> {
 
 pub fn stored_blocks_from(seed: u64, count: usize) -> Vec<Stored> {
     let mut random = Random(seed);
-    let mut all = edges(&mut random);
-    all.extend(extremes(&mut random));
+    let mut all = extremes(&mut random);
     for dc in -8..8 {
-        // An inverse's DC alone, just at and beyond the screen's ends.
+        // A DC alone, just at and beyond the screen's ends.
         let zeros = ([0; 64], [1; 64]);
-        all.push(with(zeros, 0, 1_024 + dc, 1));
+        all.push(with(zeros, 0, 1_016 + dc, 1));
         all.push(with(zeros, 0, -1_024 + dc, 0));
     }
     assert!(all.len() + 400 < count);
     while all.len() < count {
         all.push(match all.len() % 4 {
-            0 | 1 => in_range(&mut random),
-            // Out of range at one place, at times.
+            0 | 1 => passing(&mut random),
+            // One that does not pass, at times.
             2 => {
                 let (n, q) = (random.below(64) as usize, quantizer(&mut random));
-                with(in_range(&mut random), n, random.signed(12), q)
+                with(passing(&mut random), n, random.signed(12), q)
             }
             _ => (
                 core::array::from_fn(|_| coefficient(random.any_width(16))),
@@ -148,6 +202,35 @@ pub fn stored_blocks_from(seed: u64, count: usize) -> Vec<Stored> {
     }
     let yes = all.iter().filter(|&&x| screened(x) == 1).count();
     assert!(yes > count / 4 && yes < count - count / 4);
+    all
+}
+
+/// The screen's ends, and card 3's white block under a DC quantizer of 225.
+pub fn screen_ends() -> Vec<Stored> {
+    screen_ends_from(SEED)
+}
+
+pub fn screen_ends_from(seed: u64) -> Vec<Stored> {
+    let mut all = edges(&mut Random(seed));
+    for (dc, answer) in [(5, 1), (6, 0)] {
+        let block = with(([0; 64], [1; 64]), 0, dc, 225);
+        assert!(screened(block) == answer);
+        all.push(block);
+    }
+    all
+}
+
+/// The blocks of forward.rs as the Rust codes them. All of them pass.
+pub fn coded_blocks(count: usize) -> Vec<Stored> {
+    coded_blocks_from(SEED, count)
+}
+
+pub fn coded_blocks_from(seed: u64, count: usize) -> Vec<Stored> {
+    let blocks = whole_blocks_from(seed, count).into_iter();
+    let all: Vec<Stored> = blocks
+        .map(|(block, table)| (fdct::fdct_quantize(&block, &table), table))
+        .collect();
+    assert!(all.iter().all(|&x| screened(x) == 1));
     all
 }
 

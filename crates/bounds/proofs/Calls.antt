@@ -11,13 +11,13 @@ use Rattle.lists.specs.Every.{Every}
 use Rattle.lists.proofs.Tab.{length-tab}
 use Rattle.refusals.specs.Refusals.{status, written, blockTests}
 use Rattle.refusals.proofs.Refusals.{has, _then_, kept, wrote, left, passed, passed-all}
-use Rattle.forward.specs.Canonical.{coefficients}
+use Rattle.forward.specs.Canonical.{Bytes, coefficients}
 use Rattle.stored_blocks.specs.Dequantize.{dequantized}
 use Rattle.stored_blocks.specs.Stored.{sameBlocks, sameTests, sameAnswer}
 use Rattle.stored_blocks.specs.declared.Answer.{Answer}
 use Rattle.passes.specs.Passes.{eight}
 use Rattle.block.specs.Block.{block, inverseTests}
-use Rattle.bounds.specs.Demand3.{Bytes, products, decoded, Near}
+use Rattle.bounds.specs.Demand3.{products, decoded, Near}
 use Rattle.bounds.specs.Calls.{roundTripTests, comparedAnswer, Claimed}
 use Rattle.bounds.proofs.Theorem.{demand-3}
 

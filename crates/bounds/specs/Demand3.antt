@@ -2,23 +2,18 @@
 use mathlib.Core.List.{List}
 use mathlib.Core.Path.{_≡_}
 use Prim.Native.Nat.{ℕ, _+_, _*_, _^_, _≤_, _<_}
-use lib.ListN.{length, getD}
+use lib.ListN.{getD}
 use lib.IntN.{ℤ, pos, natAbs, _-ℤ_}
 use Rattle.integers.specs.Fits16.{Fits16}
 use Rattle.lists.specs.Every.{Every}
 use Rattle.basis.specs.Basis.{basis}
 use Rattle.forward.specs.Sum.{total}
 use Rattle.quantize.specs.Quantize.{divisorOf}
-use Rattle.forward.specs.Canonical.{coefficients}
+use Rattle.forward.specs.Canonical.{Bytes, coefficients}
 use Rattle.stored_blocks.specs.Dequantize.{dequantized}
 use Rattle.passes.specs.Passes.{eight}
 use Rattle.block.specs.Block.{block}
 use Rattle.orthogonality.specs.Difference.{squaredDifferences, squaredDivisors}
-
--- "An 8-bit block is any 64 samples 0..255, a table any 64 quantizers 0..255"
-pub record Bytes (l : List ℕ) : Type 0 where
-  pub long : length l ≡ 64
-  pub most : (i : ℕ) → getD l i 0 ≤ 255
 
 -- a block's coefficients, dequantized
 unfoldable pub products : List ℕ → List ℕ → List ℤ

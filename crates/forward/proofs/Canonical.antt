@@ -1,18 +1,26 @@
--- The coefficients of a block are those of its level-shifted samples; the answer of the entry of one coefficient, as its contract
--- states it. Assumes nothing.
+-- Blocks and tables of 8 bits; the coefficients of a block are those of its level-shifted samples; the answer of the entry of one
+-- coefficient, as its contract states it. Assumes nothing.
 use mathlib.Core.Path.{_≡_, ap}
 use mathlib.Core.List.{List}
-use Prim.Native.Nat.{ℕ}
+use Prim.Native.Nat.{ℕ, _≤_, _<_, zero-le}
+use native.Mathlib.Omega.{arith}
 use lib.ListN.{getD}
 use lib.IntN.{ℤ, pos}
 use Rattle.lists.specs.Tab.{tab}
-use Rattle.lists.proofs.Tab.{tab-ext}
+use Rattle.lists.proofs.Tab.{length-tab, getD-every, tab-ext}
 use Rattle.forward.specs.Forward.{scaledSum, centredBlock, quantizedSum}
 use Rattle.forward.proofs.Folding.{sum-centred}
 use Rattle.quantize.specs.Quantize.{coefficient}
 use Rattle.refusals.specs.Refusals.{status, written}
 use Rattle.refusals.proofs.Refusals.{answered}
-use Rattle.forward.specs.Canonical.{canonical, coefficients, coefficientTests, coefficientAnswer}
+use Rattle.forward.specs.Canonical.{Bytes, canonical, coefficients, coefficientTests, coefficientAnswer}
+
+-- blocks and tables of 8 bits are made from the elements of a list; 64 samples of 255 are one, and a table of them
+pub bytes : (f : ℕ → ℕ) → ((i : ℕ) → i < 64 → f i ≤ 255) → Bytes (tab 64 f)
+bytes f h = record { long = length-tab 64 f; most = getD-every (λ (k : ℕ). k ≤ 255) 64 f 0 zero-le h }
+
+pub white : Bytes (tab 64 (λ i. 255))
+white = bytes (λ i. 255) (λ i h. omega arith)
 
 pub block-coefficients : (block quant : List ℕ) → tab 64 (quantizedSum (centredBlock 128 block) quant) ≡ coefficients block quant
 unfolding coefficients canonical quantizedSum

@@ -11,8 +11,10 @@ use borrow.Author.Tests.{eq-eqb, ne-eqb}
 use lib.Dec.{eqb}
 use lib.ListN.{length}
 use lib.IntN.{ℤ, pos, natAbs, _+ℤ_, _-ℤ_, _*ℤ_, +ℤ-assoc, +ℤ-idl, +ℤ-idr, *ℤ-zero}
+use lib.Signed.{_≤ℤ_, ≤ℤ-refl}
 use Rattle.integers.specs.Linear.{dot, weight}
 use Rattle.integers.proofs.Difference.{dif-eq, by-dif, differences}
+use Rattle.integers.proofs.Order.{≤ℤ-+}
 use Rattle.integers.proofs.Ring.{+ℤ-left-comm, *ℤ-+ℤ, natAbs-+}
 use Rattle.lists.specs.Tab.{tab}
 use Rattle.lists.proofs.Tab.{length-tab}
@@ -24,6 +26,11 @@ pub sum-ext : (n : ℕ) (f g : ℕ → ℤ) → ((i : ℕ) → i < n → f i ≡
 unfolding sumTo
 sum-ext zero f g h = refl
 sum-ext (suc n) f g h = λ i. sum-ext n f g (λ k b. h k (omega arith)) i +ℤ h n (omega arith) i
+
+pub sum-le : (n : ℕ) (f g : ℕ → ℤ) → ((i : ℕ) → i < n → f i ≤ℤ g i) → sumTo n f ≤ℤ sumTo n g
+unfolding sumTo
+sum-le zero f g h = ≤ℤ-refl (pos 0)
+sum-le (suc n) f g h = ≤ℤ-+ (sumTo n f) (sumTo n g) (f n) (g n) (sum-le n f g (λ i b. h i (omega arith))) (h n (omega arith))
 
 pub sum-add : (m : ℕ) (f g : ℕ → ℤ) → sumTo m f +ℤ sumTo m g ≡ sumTo m (λ i. f i +ℤ g i)
 unfolding sumTo

@@ -1,4 +1,5 @@
 pub mod Difference
+pub mod Order
 pub mod Ring
 pub mod Congruence
 pub mod Wrap
@@ -11,4 +12,5 @@ pub mod Agree
 pub mod ZeroTest
 pub mod Equal
 pub mod Fits16
+pub mod Range
 pub mod Entries

@@ -3,3 +3,4 @@ pub mod Floor
 pub mod Linear
 pub mod Equal
 pub mod Fits16
+pub mod Range

@@ -1,2 +1,3 @@
 pub mod Dequantize
+pub mod Screen
 pub mod Stored

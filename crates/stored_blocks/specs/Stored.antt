@@ -1,23 +1,19 @@
--- Document 01, "Added by design": the screen and the sameness of blocks of 64 16-bit coefficients.
-use mathlib.Core.Bool.{Bool, false, _&&_}
+-- The screen (document 02, card 3) and the sameness (document 01, "Added by design") of blocks of 64 16-bit coefficients.
+use mathlib.Core.Bool.{Bool, false}
 use mathlib.Core.List.{List, [], _∷_}
 use Prim.Native.Nat.{ℕ}
 use lib.ListN.{getD}
-use lib.IntN.{ℤ, pos, negsuc}
-use lib.Signed.{leZ}
+use lib.IntN.{ℤ, pos}
 use Rattle.integers.specs.Equal.{eqZ}
 use Rattle.lists.specs.Below.{below}
 use Rattle.refusals.specs.Refusals.{Test, _unless_, _of_, status, written}
-use Rattle.stored_blocks.specs.Dequantize.{product}
+use Rattle.stored_blocks.specs.Screen.{passes}
 use Rattle.stored_blocks.specs.declared.Answer.{Answer}
 
--- the screen's rule for one frequency: its product lies in -1024..1023
-unfoldable pub inRange : List ℤ → List ℕ → ℕ → Bool
-inRange cs quant n = leZ (negsuc 1023) (product cs quant n) && leZ (product cs quant n) (pos 1023)
-
--- "Screen: yes when every such product lies in -1024..1023"
+-- yes when each of the 64 coefficients passes (document 02, card 3, in place of document 01's range). "This judges frequencies singly and
+-- says nothing of whole blocks."
 unfoldable pub screened : List ℤ → List ℕ → Bool
-screened cs quant = below 64 (inRange cs quant)
+screened cs quant = below 64 (λ n. passes n (getD quant n 0) (getD cs n (pos 0)))
 
 -- "Screen: 1, 2"; a refusal's answer is no
 abbrev pub screenTests : List ℤ → List ℕ → List Test

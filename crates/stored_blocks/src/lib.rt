@@ -1,16 +1,17 @@
-// Blocks of stored coefficients (document 01, "Added by design"): dequantizing, the screen and sameness.
+// Blocks of stored coefficients (document 01, "Added by design"; the screen by document 02, card 3): dequantizing, the screen and sameness.
 //
 // A product of a 16-bit coefficient and a divisor of 1..255 is at most 32768·255 in absolute value, well within 32 bits.
 ghost use mathlib.Core.Path.{_≡_};
 ghost use Prim.Native.Nat.{_≤_};
 ghost use lib.ListN.{length};
-ghost use lib.IntN.{pos, natAbs, _*ℤ_, negsuc};
+ghost use lib.IntN.{pos, natAbs, _+ℤ_, _-ℤ_, _*ℤ_};
 ghost use Rattle.quantize.specs.Quantize.{divisorOf};
 ghost use Rattle.refusals.specs.Refusals.{blockTests, status, written};
 ghost use Rattle.stored_blocks.specs.Dequantize.{dequantized};
 ghost use mathlib.Core.Bool.{_&&_};
 ghost use lib.Signed.{leZ};
 ghost use Rattle.integers.specs.Equal.{eqZ};
+ghost use Rattle.stored_blocks.specs.Screen.{lowLimits, highLimits};
 ghost use Rattle.stored_blocks.specs.Stored.{screened, screenAnswer, sameBlocks, sameAnswer};
 use quantize::divisor;
 
@@ -19,6 +20,142 @@ pub struct Answer {
     pub status: u32,
     pub yes: bool,
 }
+
+// low in units of 2^31, rounded towards 0: the least 2·c·d + d of a coefficient that passes.
+const LOW_LIMITS: [i32; 64] = [
+    -2048,
+    -1848,
+    -1884,
+    -1848,
+    -2040,
+    -1848,
+    -1884,
+    -1848,
+    -1848,
+    -1674,
+    -1707,
+    -1674,
+    -1848,
+    -1674,
+    -1707,
+    -1674,
+    -1884,
+    -1707,
+    -1741,
+    -1707,
+    -1884,
+    -1707,
+    -1741,
+    -1707,
+    -1848,
+    -1674,
+    -1707,
+    -1674,
+    -1848,
+    -1674,
+    -1707,
+    -1674,
+    -2040,
+    -1848,
+    -1884,
+    -1848,
+    -2040,
+    -1848,
+    -1884,
+    -1848,
+    -1848,
+    -1674,
+    -1707,
+    -1674,
+    -1848,
+    -1674,
+    -1707,
+    -1674,
+    -1884,
+    -1707,
+    -1741,
+    -1707,
+    -1884,
+    -1707,
+    -1741,
+    -1707,
+    -1848,
+    -1674,
+    -1707,
+    -1674,
+    -1848,
+    -1674,
+    -1707,
+    -1674,
+];
+
+// high in units of 2^31, rounded down: the greatest 2·c·d - d of one that passes.
+const HIGH_LIMITS: [i32; 64] = [
+    2032,
+    1848,
+    1884,
+    1848,
+    2040,
+    1848,
+    1884,
+    1848,
+    1848,
+    1674,
+    1707,
+    1674,
+    1848,
+    1674,
+    1707,
+    1674,
+    1884,
+    1707,
+    1741,
+    1707,
+    1884,
+    1707,
+    1741,
+    1707,
+    1848,
+    1674,
+    1707,
+    1674,
+    1848,
+    1674,
+    1707,
+    1674,
+    2040,
+    1848,
+    1884,
+    1848,
+    2040,
+    1848,
+    1884,
+    1848,
+    1848,
+    1674,
+    1707,
+    1674,
+    1848,
+    1674,
+    1707,
+    1674,
+    1884,
+    1707,
+    1741,
+    1707,
+    1884,
+    1707,
+    1741,
+    1707,
+    1848,
+    1674,
+    1707,
+    1674,
+    1848,
+    1674,
+    1707,
+    1674,
+];
 
 // A coefficient times its divisor.
 pub fn product(coefficient: i16, quantizer: u8) -> i32
@@ -58,29 +195,47 @@ pub fn dequantize(coefficients: &[i16], quant: &[u8], out: &mut [i32]) -> u32
     0
 }
 
-fn in_range(coefficient: i16, quantizer: u8) -> bool
-    ensures { λ r. ⌜ r ≡ (leZ (negsuc 1023) (coefficient *ℤ pos (divisorOf quantizer)) && leZ (coefficient *ℤ pos (divisorOf quantizer)) (pos 1023)) ⌝ }
+fn low_limits() -> [i32; 64]
+    ensures { λ r. ⌜ r ≡ lowLimits ⌝ }
 {
-    let p = product(coefficient, quantizer);
-    (p >= -1024) & (p <= 1023)
+    LOW_LIMITS
+}
+
+fn high_limits() -> [i32; 64]
+    ensures { λ r. ⌜ r ≡ highLimits ⌝ }
+{
+    HIGH_LIMITS
+}
+
+// The numbers that round to c > 0 begin at (2c - 1)·d·2^31, so c passes when (2c - 1)·d is at most high / 2^31 rounded down; c < 0 likewise
+// with low; 0 always. Each comparison holds by itself where c has the other sign.
+fn passes(coefficient: i16, quantizer: u8, low: i32, high: i32) -> bool
+    ensures { λ r. ⌜ r ≡ (leZ (pos 2 *ℤ (coefficient *ℤ pos (divisorOf quantizer)) -ℤ pos (divisorOf quantizer)) high && leZ low (pos 2 *ℤ (coefficient *ℤ pos (divisorOf quantizer)) +ℤ pos (divisorOf quantizer))) ⌝ }
+{
+    let twice = 2 * product(coefficient, quantizer);
+    let d = divisor(quantizer as u16) as i32;
+    (twice - d <= high) & (low <= twice + d)
 }
 
 // No branch for each place, here and in `all_equal`, so that the compiler tests many at once.
-fn products_in_range(coefficients: &[i16], quant: &[u8]) -> bool
+fn all_pass(coefficients: &[i16], quant: &[u8]) -> bool
     requires { ⌜ length (now coefficients) ≡ 64 ⌝ }
     requires { ⌜ length (now quant) ≡ 64 ⌝ }
     ensures { λ r. ⌜ r ≡ screened (now (coefficients .entry)) (now (quant .entry)) ⌝ }
 {
+    let low = low_limits();
+    let high = high_limits();
     let mut all = true;
     let mut n = 0;
     while n < 64 {
-        all = in_range(coefficients[n], quant[n]) & all;
+        all = passes(coefficients[n], quant[n], low[n], high[n]) & all;
         n += 1;
     }
     all
 }
 
-// Whether every product lies in -1024..1023.
+// Whether each coefficient is what some whole number from low to high of its frequency rounds to under its divisor. This judges frequencies
+// singly and says nothing of whole blocks; what `fdct_quantize` writes passes (`canonical-passes`).
 pub fn screen(coefficients: &[i16], quant: &[u8]) -> Answer
     ensures { λ r. ⌜ r ≡ screenAnswer (now (coefficients .entry)) (now (quant .entry)) ⌝ }
 {
@@ -98,7 +253,7 @@ pub fn screen(coefficients: &[i16], quant: &[u8]) -> Answer
     }
     Answer {
         status: 0,
-        yes: products_in_range(coefficients, quant),
+        yes: all_pass(coefficients, quant),
     }
 }
 

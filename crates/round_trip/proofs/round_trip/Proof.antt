@@ -5,7 +5,8 @@ use borrow.Author.Needs.{needs}
 use lib.ListN.{length}
 use Rattle.integers.specs.Fits16.{Fits16}
 use Rattle.lists.specs.Every.{Every}
-use Rattle.bounds.specs.Demand3.{Bytes, products}
+use Rattle.forward.specs.Canonical.{Bytes}
+use Rattle.bounds.specs.Demand3.{products}
 use Rattle.bounds.proofs.Theorem.{demand-3}
 use Rattle.bounds.proofs.Calls.{length-products, lengths, coded, multiplied, inverted, compared, all-refused, all-done}
 use Rattle.round_trip.proofs.round_trip.Statement.{statement}

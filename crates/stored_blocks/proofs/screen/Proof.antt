@@ -13,4 +13,4 @@ screen-spec =
     (λ c. screen-answers _ _ (refused _ _ _ 0 (lacks (c .if1 .taken) then tt)))
     (λ c. screen-answers _ _ (refused _ _ _ 1 (has (c .before .if1 .left) then lacks (c .if2 .taken) then tt)))
     (λ c κs. search needs)
-    (λ c. screen-answers _ _ (accepted _ _ _ (has (c .before .before .if1 .left) then has (c .before .if2 .left) then tt) (c .products-in-range .ensures))))
+    (λ c. screen-answers _ _ (accepted _ _ _ (has (c .before .before .if1 .left) then has (c .before .if2 .left) then tt) (c .all-pass .ensures))))
