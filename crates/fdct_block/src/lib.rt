@@ -1,8 +1,8 @@
-// The canonical forward transform of samples less their centre, with quantizing (fdct.rs; document 01, leaf 4; T.81 A.3.3 and
-// A.3.4).
+// The canonical forward transform of samples less their centre, with quantizing (fdct.rs; document 01, leaf 4; document 02, card 5;
+// T.81 A.3.3 and A.3.4).
 //
 // A block of centred samples folds into four quadrants of 16 numbers, one for each parity of (u, v), and each coefficient is a
-// 16-term sum of one fold against the basis, the table of crate basis. One fold is held at a time, and its 16 coefficients are
+// 16-term sum of one quadrant against the basis, the table of crate basis. One quadrant is held at a time, and its 16 coefficients are
 // written before the next.
 mod folds;
 mod parity;
@@ -23,19 +23,21 @@ use crate::parity::write_odd_odd;
 use crate::sums::quantized;
 use basis::basis_table;
 
-// The 64 coefficients of a block in natural order.
+// The 64 coefficients of a block in natural order, those of one parity of (u, v) after the other: the same 16 places hold the quadrant
+// of each in turn.
 pub fn write_coefficients(samples: &[i16; 64], quant: &[u16; 64], out: &mut [i16])
     requires { ⌜ ((i : ℕ) → natAbs (getD (now samples) i (pos 0)) ≤ 2 ^ 11) ⌝ }
     requires { ⌜ length (now out) ≡ 64 ⌝ }
     ensures { λ _. ⌜ now (out .exit) ≡ tab 64 (quantizedSum (now (samples .entry)) (now (quant .entry))) ⌝ }
 {
-    write_even_even(samples, quant, out);
-    write_odd_even(samples, quant, out);
-    write_even_odd(samples, quant, out);
-    write_odd_odd(samples, quant, out);
+    let mut quadrant = [0i16; 16];
+    write_even_even(samples, quant, &mut quadrant, out);
+    write_odd_even(samples, quant, &mut quadrant, out);
+    write_even_odd(samples, quant, &mut quadrant, out);
+    write_odd_odd(samples, quant, &mut quadrant, out);
 }
 
-// Coefficient n of a block, by the one fold that it needs. Where n is not known in advance the table of 4 KB is first written to the
+// Coefficient n of a block, by the one quadrant that it needs. Where n is not known in advance the table of 4 KB is first written to the
 // stack, which takes most of the time.
 pub fn coefficient_at(samples: &[i16; 64], quantizer: u16, n: usize) -> i16
     requires { ⌜ ((i : ℕ) → natAbs (getD (now samples) i (pos 0)) ≤ 2 ^ 11) ⌝ }
@@ -44,6 +46,7 @@ pub fn coefficient_at(samples: &[i16; 64], quantizer: u16, n: usize) -> i16
     ensures { λ r. ⌜ natAbs r < 2 ^ 15 ⌝ }
 {
     let table = basis_table();
-    let f = fold(samples, n % 2 == 1, n / 8 % 2 == 1);
-    quantized(&f, &table, quantizer, n)
+    let mut quadrant = [0i16; 16];
+    fold(samples, n % 8, n / 8, &mut quadrant);
+    quantized(&quadrant, &table, quantizer, n)
 }

@@ -1,15 +1,16 @@
-// The canonical coefficients of one parity of (u, v) (fdct.rs; document 01, leaf 4; T.81 A.3.3 and A.3.4).
+// The step for one parity of (u, v) of the canonical transform (fdct.rs; document 01, leaf 4; document 02, card 5; T.81 A.3.3 and A.3.4).
 //
-// Each of the 16 is a sum of the one fold of that parity against the basis, divided and rounded. The frequencies are written out: the
-// compiler then puts each call of `write_at` in its place and makes immediates of the table's entries. A step that writes two places
-// is too long for that, and the table would be written to the stack.
+// A step fills the caller's 16 places with the folded quadrant of its parity, writes that parity's 16 coefficients, each a sum of the
+// quadrant against the basis, divided and rounded, and keeps the other 48 places. The frequencies are written out: the compiler then
+// puts each call of `write_at` in its place and makes immediates of the table's entries. A step that writes two places is too long for
+// that, and the table would be written to the stack.
 ghost use mathlib.Core.Path.{_≡_};
 ghost use Prim.Native.Nat.{ℕ, _^_, _≤_, _<_};
 ghost use lib.ListN.{length, getD, set};
 ghost use lib.IntN.{pos, natAbs};
 ghost use Rattle.fdct_block.specs.Ready.{Ready};
 ghost use Rattle.quantize.specs.Quantize.{coefficient};
-ghost use Rattle.forward.specs.Forward.{foldSum, parityWritten};
+ghost use Rattle.forward.specs.Parity.{foldSum, foldedQuadrant, parityWritten};
 use crate::folds::fold;
 use crate::sums::quantized;
 use basis::basis_table;
@@ -25,13 +26,20 @@ fn write_at(f: &[i16; 16], table: &[i32; 1024], quant: &[u16; 64], out: &mut [i1
 }
 
 // The 16 coefficients with u and v even.
-pub fn write_even_even(samples: &[i16; 64], quant: &[u16; 64], out: &mut [i16])
+pub fn write_even_even(
+    samples: &[i16; 64],
+    quant: &[u16; 64],
+    quadrant: &mut [i16; 16],
+    out: &mut [i16],
+)
     requires { ⌜ ((i : ℕ) → natAbs (getD (now samples) i (pos 0)) ≤ 2 ^ 11) ⌝ }
-    requires { ⌜ length (now out) ≡ 64 ⌝ }
+    requires { ⌜ (length (now quadrant) ≡ 16) × (length (now out) ≡ 64) ⌝ }
+    ensures { λ _. ⌜ now (quadrant .exit) ≡ foldedQuadrant (now (samples .entry)) 0 0 ⌝ }
     ensures { λ _. ⌜ now (out .exit) ≡ parityWritten (now (samples .entry)) (now (quant .entry)) 0 0 (now (out .entry)) ⌝ }
 {
     let table = &basis_table();
-    let f = &fold(samples, false, false);
+    fold(samples, 0, 0, quadrant);
+    let f = &*quadrant;
     write_at(f, table, quant, out, 0);
     write_at(f, table, quant, out, 2);
     write_at(f, table, quant, out, 4);
@@ -51,13 +59,20 @@ pub fn write_even_even(samples: &[i16; 64], quant: &[u16; 64], out: &mut [i16])
 }
 
 // The 16 coefficients with u odd and v even.
-pub fn write_odd_even(samples: &[i16; 64], quant: &[u16; 64], out: &mut [i16])
+pub fn write_odd_even(
+    samples: &[i16; 64],
+    quant: &[u16; 64],
+    quadrant: &mut [i16; 16],
+    out: &mut [i16],
+)
     requires { ⌜ ((i : ℕ) → natAbs (getD (now samples) i (pos 0)) ≤ 2 ^ 11) ⌝ }
-    requires { ⌜ length (now out) ≡ 64 ⌝ }
+    requires { ⌜ (length (now quadrant) ≡ 16) × (length (now out) ≡ 64) ⌝ }
+    ensures { λ _. ⌜ now (quadrant .exit) ≡ foldedQuadrant (now (samples .entry)) 1 0 ⌝ }
     ensures { λ _. ⌜ now (out .exit) ≡ parityWritten (now (samples .entry)) (now (quant .entry)) 1 0 (now (out .entry)) ⌝ }
 {
     let table = &basis_table();
-    let f = &fold(samples, true, false);
+    fold(samples, 1, 0, quadrant);
+    let f = &*quadrant;
     write_at(f, table, quant, out, 1);
     write_at(f, table, quant, out, 3);
     write_at(f, table, quant, out, 5);
@@ -77,13 +92,20 @@ pub fn write_odd_even(samples: &[i16; 64], quant: &[u16; 64], out: &mut [i16])
 }
 
 // The 16 coefficients with u even and v odd.
-pub fn write_even_odd(samples: &[i16; 64], quant: &[u16; 64], out: &mut [i16])
+pub fn write_even_odd(
+    samples: &[i16; 64],
+    quant: &[u16; 64],
+    quadrant: &mut [i16; 16],
+    out: &mut [i16],
+)
     requires { ⌜ ((i : ℕ) → natAbs (getD (now samples) i (pos 0)) ≤ 2 ^ 11) ⌝ }
-    requires { ⌜ length (now out) ≡ 64 ⌝ }
+    requires { ⌜ (length (now quadrant) ≡ 16) × (length (now out) ≡ 64) ⌝ }
+    ensures { λ _. ⌜ now (quadrant .exit) ≡ foldedQuadrant (now (samples .entry)) 0 1 ⌝ }
     ensures { λ _. ⌜ now (out .exit) ≡ parityWritten (now (samples .entry)) (now (quant .entry)) 0 1 (now (out .entry)) ⌝ }
 {
     let table = &basis_table();
-    let f = &fold(samples, false, true);
+    fold(samples, 0, 1, quadrant);
+    let f = &*quadrant;
     write_at(f, table, quant, out, 8);
     write_at(f, table, quant, out, 10);
     write_at(f, table, quant, out, 12);
@@ -103,13 +125,20 @@ pub fn write_even_odd(samples: &[i16; 64], quant: &[u16; 64], out: &mut [i16])
 }
 
 // The 16 coefficients with u and v odd.
-pub fn write_odd_odd(samples: &[i16; 64], quant: &[u16; 64], out: &mut [i16])
+pub fn write_odd_odd(
+    samples: &[i16; 64],
+    quant: &[u16; 64],
+    quadrant: &mut [i16; 16],
+    out: &mut [i16],
+)
     requires { ⌜ ((i : ℕ) → natAbs (getD (now samples) i (pos 0)) ≤ 2 ^ 11) ⌝ }
-    requires { ⌜ length (now out) ≡ 64 ⌝ }
+    requires { ⌜ (length (now quadrant) ≡ 16) × (length (now out) ≡ 64) ⌝ }
+    ensures { λ _. ⌜ now (quadrant .exit) ≡ foldedQuadrant (now (samples .entry)) 1 1 ⌝ }
     ensures { λ _. ⌜ now (out .exit) ≡ parityWritten (now (samples .entry)) (now (quant .entry)) 1 1 (now (out .entry)) ⌝ }
 {
     let table = &basis_table();
-    let f = &fold(samples, true, true);
+    fold(samples, 1, 1, quadrant);
+    let f = &*quadrant;
     write_at(f, table, quant, out, 9);
     write_at(f, table, quant, out, 11);
     write_at(f, table, quant, out, 13);

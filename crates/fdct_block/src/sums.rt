@@ -9,7 +9,7 @@ ghost use lib.IntN.{pos, natAbs, _*ℤ_};
 ghost use Rattle.basis.specs.Basis.{basisTable};
 ghost use Rattle.quantize.specs.Quantize.{coefficient};
 ghost use Rattle.forward.specs.Sum.{sumTo};
-ghost use Rattle.forward.specs.Forward.{foldSum};
+ghost use Rattle.forward.specs.Parity.{foldSum};
 use quantize::quantize;
 
 fn product(a: i16, b: i32) -> i64

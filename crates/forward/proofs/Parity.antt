@@ -12,12 +12,14 @@ use lib.ListN.{length, getD}
 use lib.IntN.{ℤ, pos}
 use mir.Facts.{and-yes}
 use Rattle.lists.specs.Tab.{tab}
-use Rattle.lists.proofs.Tab.{getD-tab, tab-ext, Stored, missed, stored-tab}
+use Rattle.lists.proofs.Tab.{length-tab, getD-tab, tab-ext, Stored, missed, stored-tab}
 use Rattle.lists.specs.Below.{below}
 use Rattle.lists.proofs.Below.{below-at}
 use Rattle.quantize.specs.Quantize.{coefficient}
-use Rattle.forward.specs.Forward.{odd, foldOf, foldSum, ofParity, quantizedSum, parityWritten}
-use Rattle.forward.proofs.Scaled.{fold-read}
+use Rattle.forward.specs.Sum.{total}
+use Rattle.forward.specs.Forward.{centredSum, quantizedSum}
+use Rattle.forward.specs.Parity.{folded, foldedQuadrant, foldSum, ofParity, parityWritten}
+use Rattle.forward.proofs.Folding.{pairsAt, pairs-fold, fold-sum}
 
 -- the 16 places of one parity, rising
 abbrev pub placeOf : ℕ → ℕ → ℕ → ℕ
@@ -36,23 +38,44 @@ exactly u v hu hv n h =
     let f : ℕ → ℕ → ℕ → Bool = λ u v n. Bool·beq (missed (placeOf u v) 16 n) (not (ofParity u v n)) in
     agrees _ _ (below-at 64 (f u v) (below-at 2 (λ v. below 64 (f u v)) (below-at 2 (λ u. below 2 (λ v. below 64 (f u v))) tt u hu) v hv) n h)
 
--- the parities of a frequency
-parities : (u v n : ℕ) → ofParity u v n ≡ true → (eqb u 1 ≡ odd (n % 8)) × (eqb v 1 ≡ odd (n / 8))
+-- computed: "that parity's 16 coefficients"
+pub sixteen : (u v : ℕ) → u < 2 → v < 2 → total 64 (λ n. cond (ofParity u v n) 1 0) ≡ 16
+unfolding below total ofParity
+sixteen u v hu hv =
+    let f : ℕ → ℕ → Bool = λ u v. eqb (total 64 (λ n. cond (ofParity u v n) 1 0)) 16 in
+    eqb→eq _ 16 (below-at 2 (f u) (below-at 2 (λ u. below 2 (f u)) tt u hu) v hv)
+
+-- the 16 numbers of a quadrant
+pub quadrant-long : (c : List ℤ) (u v : ℕ) {f : List ℤ} → f ≡ foldedQuadrant c u v → length f ≡ 16
+unfolding foldedQuadrant
+quadrant-long c u v e = ap length e ∙ length-tab 16 (λ k. folded c u v (k % 4) (k / 4))
+
+-- a quadrant depends on the parities alone
+same-quadrant : (c : List ℤ) (u v p q : ℕ) → u % 2 ≡ p % 2 → v % 2 ≡ q % 2 → foldedQuadrant c u v ≡ foldedQuadrant c p q
+unfolding foldedQuadrant
+same-quadrant c u v p q eu ev =
+    tab-ext 16 _ _ (λ k b.
+    let x : k % 4 < 4 = omega arith in
+    let y : k / 4 < 4 = omega arith in
+    sym (pairs-fold c u v (k % 4) (k / 4) x y) ∙ (λ i. pairsAt c (eqb (eu i) 1) (eqb (ev i) 1) (k % 4) (k / 4)) ∙ pairs-fold c p q (k % 4) (k / 4) x y)
+
+-- the sum of a quadrant is S for the frequencies of its parity
+fold-read : (c : List ℤ) (u v n : ℕ) → ofParity u v n ≡ true → foldSum (foldedQuadrant c u v) n ≡ centredSum c n
 unfolding ofParity
-parities u v n e =
+fold-read c u v n e =
     let both = and-yes (eqb (n % 2) u) (eqb (n / 8 % 2) v) (subst T (sym e) tt) in
-    let eu : u ≡ n % 8 % 2 = omega (arith, eqb→eq (n % 2) u (both .0)) in
-    let ev : v ≡ n / 8 % 2 = omega (arith, eqb→eq (n / 8 % 2) v (both .1)) in
-    (ap (λ (k : ℕ). eqb k 1) eu, ap (λ (k : ℕ). eqb k 1) ev)
+    let eu : u % 2 ≡ n % 8 % 2 = omega (arith, eqb→eq (n % 2) u (both .0)) in
+    let ev : v % 2 ≡ n / 8 % 2 = omega (arith, eqb→eq (n / 8 % 2) v (both .1)) in
+    ap (λ (f : List ℤ). foldSum f n) (same-quadrant c u v (n % 8) (n / 8) eu ev) ∙ sym (fold-sum c n)
 
 -- the fold's sums, quantized and stored at the 16 places in turn, are the coefficients of the parity, and the other 48 places are kept
-module _ (c : List ℤ) (quant : List ℕ) (u v : ℕ) (hu : u < 2) (hv : v < 2) {f : List ℤ} (ef : f ≡ foldOf c (eqb u 1) (eqb v 1)) (out : List ℤ) where
+module _ (c : List ℤ) (quant : List ℕ) (u v : ℕ) (hu : u < 2) (hv : v < 2) {f : List ℤ} (ef : f ≡ foldedQuadrant c u v) (out : List ℤ) where
   abbrev value : ℕ → ℤ
   value n = coefficient (foldSum f n) (getD quant n 0)
 
   place : (n : ℕ) (t : Bool) → ofParity u v n ≡ t → cond (not t) (getD out n (pos 0)) (value n) ≡ cond t (quantizedSum c quant n) (getD out n (pos 0))
   unfolding quantizedSum
-  place n true e = let p = parities u v n e in ap (λ (S : ℤ). coefficient S (getD quant n 0)) (fold-read c n (eqb u 1) (eqb v 1) (p .0) (p .1) ef)
+  place n true e = ap (λ (S : ℤ). coefficient S (getD quant n 0)) (ap (λ (g : List ℤ). foldSum g n) ef ∙ fold-read c u v n e)
   place n false e = refl
 
   pub parity-written : {l : List ℤ} → Stored (placeOf u v) (λ n. coefficient (foldSum f n) (getD quant n 0)) out 16 l → length out ≡ 64 → l ≡ parityWritten c quant u v out

@@ -16,7 +16,8 @@ use Rattle.lists.proofs.Below.{below-at}
 use Rattle.basis.specs.Cosine.{cosines}
 use Rattle.basis.specs.Basis.{signed, negated, reduced, factor, cosineOf, entry}
 use Rattle.forward.specs.Sum.{sumTo, total}
-use Rattle.forward.specs.Forward.{centredSum, odd, at, folded, foldOf, foldSum}
+use Rattle.forward.specs.Forward.{centredSum}
+use Rattle.forward.specs.Parity.{mirrorSigned, folded, foldedQuadrant, foldSum}
 use Rattle.forward.proofs.Sum.{natAbs-sum, total-le, total-scale}
 use Rattle.forward.proofs.Folding.{fold-sum}
 
@@ -36,11 +37,9 @@ unfolding signed
 signed-size true z = natAbs-neg z
 signed-size false z = refl
 
--- four numbers of at most m, with signs
-four-size : (s t : Bool) (p q r w : ℤ) (m : ℕ) → natAbs p ≤ m → natAbs q ≤ m → natAbs r ≤ m → natAbs w ≤ m →
-    natAbs ((p +ℤ signed s q) +ℤ signed t (r +ℤ signed s w)) ≤ 4 * m
-four-size s t p q r w m hp hq hr hw =
-    omega (arith, natAbs-+ (p +ℤ signed s q) (signed t (r +ℤ signed s w)), natAbs-+ p (signed s q), signed-size s q, signed-size t (r +ℤ signed s w), natAbs-+ r (signed s w), signed-size s w)
+-- four numbers of at most m
+four-size : (p q r w : ℤ) (m : ℕ) → natAbs p ≤ m → natAbs q ≤ m → natAbs r ≤ m → natAbs w ≤ m → natAbs (p +ℤ q +ℤ r +ℤ w) ≤ 4 * m
+four-size p q r w m hp hq hr hw = omega (arith, natAbs-+ (p +ℤ q +ℤ r) w, natAbs-+ (p +ℤ q) r, natAbs-+ p q)
 
 -- S, by a fold of numbers of at most B
 pub sum-size : (f : List ℤ) (B : ℕ) → ((k : ℕ) → natAbs (getD f k (pos 0)) ≤ B) → (n : ℕ) → n < 64 → natAbs (foldSum f n) ≤ B * 2 ^ 33
@@ -49,19 +48,22 @@ sum-size f B small n h =
     le-trans (natAbs-products 16 B (λ k. getD f k (pos 0)) (λ k. entry n (k / 4) (k % 4)) (λ k b. small k)) (mul-le-mul-left B (entries-small n h))
 
 module _ (c : List ℤ) (m : ℕ) (small : (i : ℕ) → natAbs (getD c i (pos 0)) ≤ m) where
-  folded-size : (s t : Bool) (x y : ℕ) → natAbs (folded c s t x y) ≤ 4 * m
-  unfolding folded
-  folded-size s t x y = four-size s t (at c x y) (at c (7 - x) y) (at c x (7 - y)) (at c (7 - x) (7 - y)) m (small _) (small _) (small _) (small _)
+  mirrored-size : (u v x y : ℕ) → natAbs (mirrorSigned c u v x y) ≤ m
+  unfolding mirrorSigned
+  mirrored-size u v x y = rw (signed-size, signed-size) (small (8 * y + x))
 
-  pub fold-size : (s t : Bool) (k : ℕ) → natAbs (getD (foldOf c s t) k (pos 0)) ≤ 4 * m
-  unfolding foldOf
-  fold-size s t k = getD-every (λ (z : ℤ). natAbs z ≤ 4 * m) 16 (λ j. folded c s t (j % 4) (j / 4)) (pos 0) zero-le (λ j b. folded-size s t (j % 4) (j / 4)) k
+  folded-size : (u v x y : ℕ) → natAbs (folded c u v x y) ≤ 4 * m
+  unfolding folded
+  folded-size u v x y =
+      let size = mirrored-size u v in
+      four-size (mirrorSigned c u v x y) (mirrorSigned c u v (7 - x) y) (mirrorSigned c u v x (7 - y)) (mirrorSigned c u v (7 - x) (7 - y)) m
+      (size x y) (size (7 - x) y) (size x (7 - y)) (size (7 - x) (7 - y))
+
+  pub fold-size : (u v k : ℕ) → natAbs (getD (foldedQuadrant c u v) k (pos 0)) ≤ 4 * m
+  unfolding foldedQuadrant
+  fold-size u v k = getD-every (λ (z : ℤ). natAbs z ≤ 4 * m) 16 (λ j. folded c u v (j % 4) (j / 4)) (pos 0) zero-le (λ j b. folded-size u v (j % 4) (j / 4)) k
 
   -- S is at most 2^35 times the largest sample: 2^42 for 8 bits, 2^46 for 12
   pub scaled-size : (n : ℕ) → n < 64 → natAbs (centredSum c n) ≤ m * 2 ^ 35
   scaled-size n h =
-      rw (fold-sum c n) (omega (arith, sum-size (foldOf c (odd (n % 8)) (odd (n / 8))) (4 * m) (fold-size (odd (n % 8)) (odd (n / 8))) n h))
-
--- the sum of a fold is S for the frequencies of its parity
-pub fold-read : (c : List ℤ) (n : ℕ) (u v : Bool) → u ≡ odd (n % 8) → v ≡ odd (n / 8) → {f : List ℤ} → f ≡ foldOf c u v → foldSum f n ≡ centredSum c n
-fold-read c n u v eu ev ef = (λ i. foldSum (ef i) n) ∙ (λ i. foldSum (foldOf c (eu i) (ev i)) n) ∙ sym (fold-sum c n)
+      rw (fold-sum c n) (omega (arith, sum-size (foldedQuadrant c (n % 8) (n / 8)) (4 * m) (fold-size (n % 8) (n / 8)) n h))

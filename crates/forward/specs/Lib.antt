@@ -1,3 +1,4 @@
 pub mod Sum
 pub mod Forward
+pub mod Parity
 pub mod Canonical

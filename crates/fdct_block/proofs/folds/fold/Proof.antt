@@ -2,28 +2,27 @@
 use Prim.Native.Nat.{ℕ, _+_, _-_, _*_, _/_, _%_, _^_, _<_, _≤_}
 use mathlib.Core.Path.{_≡_, refl, sym, ap, subst, _∙_}
 use mathlib.Core.List.{List}
-use mathlib.Core.Bool.{Bool}
 use native.Mathlib.Omega.{arith}
 use lib.ListN.{getD}
 use lib.IntN.{ℤ, pos, natAbs}
 use mir.Syntax.{w16}
 use mir.Val.{toZ, ofZ}
 use Rattle.lists.proofs.Tab.{Filled, none, more, all}
-use Rattle.forward.specs.Forward.{folded, foldOf}
+use Rattle.forward.specs.Parity.{folded, foldedQuadrant}
 use Rattle.forward.proofs.Scaled.{fold-size}
 use Rattle.fdct_block.proofs.Narrow.{kept}
 use Rattle.fdct_block.proofs.folds.fold.Statement.{statement}
 use Rattle.fdct_block.proofs.folds.fold.Tie as tie
 
-abbrev at : List ℤ → Bool → Bool → ℕ → ℤ
-at c s t k = folded c s t (k % 4) (k / 4)
+abbrev at : List ℤ → ℕ → ℕ → ℕ → ℤ
+at c u v k = folded c u v (k % 4) (k / 4)
 
 -- the fold at column x of row y is place 4y + x
-read : (c : List ℤ) (s t : Bool) (x y : ℕ) → x < 4 → (r : ℤ) → r ≡ folded c s t x y → natAbs r ≤ 2 ^ 13 → toZ w16 (ofZ w16 r) ≡ at c s t (4 * y + x)
-read c s t x y h r e b =
+read : (c : List ℤ) (u v x y : ℕ) → x < 4 → (r : ℤ) → r ≡ folded c u v x y → natAbs r ≤ 2 ^ 13 → toZ w16 (ofZ w16 r) ≡ at c u v (4 * y + x)
+read c u v x y h r e b =
     let ex : x ≡ (4 * y + x) % 4 = omega arith in
     let ey : y ≡ (4 * y + x) / 4 = omega arith in
-    kept r (omega arith) ∙ e ∙ (λ i. folded c s t (ex i) (ey i))
+    kept r (omega arith) ∙ e ∙ (λ i. folded c u v (ex i) (ey i))
 
 abbrev Inv-loop : tie.InvT-loop
 Inv-loop samples u-odd v-odd f₀ y₀ f y = (y ≤ 4) × Filled (at samples u-odd v-odd) 16 (4 * y) f
@@ -39,8 +38,8 @@ loop-again c =
     let turn = c1 .before .before in
     let s = turn .before in
     let y : ℕ = turn .loop .y in
-    let read′ = read (s .args .samples .now) (s .args .u-odd) (s .args .v-odd) in
-    let g : ℕ → ℤ = at (s .args .samples .now) (s .args .u-odd) (s .args .v-odd) in
+    let read′ = read (s .args .samples .now) (s .args .u) (s .args .v) in
+    let g : ℕ → ℤ = at (s .args .samples .now) (s .args .u) (s .args .v) in
     let v0 = read′ 0 y (omega arith) (c1 .fold-at .result) (c1 .fold-at .ensures .0) (c1 .fold-at .ensures .1) in
     let v1 = read′ 1 y (omega arith) (c2 .fold-at2 .result) (c2 .fold-at2 .ensures .0) (c2 .fold-at2 .ensures .1) in
     let v2 = read′ 2 y (omega arith) (c3 .fold-at3 .result) (c3 .fold-at3 .ensures .0) (c3 .fold-at3 .ensures .1) in
@@ -51,16 +50,16 @@ loop-again c =
     let s3 = more g 16 (4 * y + 2) (4 * y + 3) _ _ s2 (omega arith) (omega arith) v2 in
     (omega arith, more g 16 (4 * y + 3) (4 * (y + 1)) _ _ s3 (omega arith) (omega arith) v3)
 
-whole : (c : List ℤ) (s t : Bool) (f : List ℤ) (y : ℕ) → Filled (at c s t) 16 (4 * y) f → y ≤ 4 → 4 ≤ y → f ≡ foldOf c s t
-unfolding foldOf
-whole c s t f y h a b = all (at c s t) 16 (4 * y) f h (omega arith) (omega arith)
+whole : (c : List ℤ) (u v : ℕ) (f : List ℤ) (y : ℕ) → Filled (at c u v) 16 (4 * y) f → y ≤ 4 → 4 ≤ y → f ≡ foldedQuadrant c u v
+unfolding foldedQuadrant
+whole c u v f y h a b = all (at c u v) 16 (4 * y) f h (omega arith) (omega arith)
 
 returns : tie.Need-returns Inv-loop μ-loop
 returns c =
     let l = c .before .loop in
     let s = c .before .before in
-    let e = whole (s .args .samples .now) (s .args .u-odd) (s .args .v-odd) _ (l .y) (l .inv .1) (omega arith) (omega arith) in
-    (e, λ k. subst (λ (f : List ℤ). natAbs (getD f k (pos 0)) ≤ 2 ^ 13) (sym e) (omega (arith, fold-size (s .args .samples .now) (2 ^ 11) (s .pre) (s .args .u-odd) (s .args .v-odd) k)))
+    let e = whole (s .args .samples .now) (s .args .u) (s .args .v) _ (l .y) (l .inv .1) (omega arith) (omega arith) in
+    (e, λ k. subst (λ (f : List ℤ). natAbs (getD f k (pos 0)) ≤ 2 ^ 13) (sym e) (omega (arith, fold-size (s .args .samples .now) (2 ^ 11) (s .pre .0) (s .args .u) (s .args .v) k)))
 
 pub fold-spec : {M : Type 1} → statement M
 fold-spec =
@@ -68,22 +67,22 @@ fold-spec =
     (tie.spec
     Inv-loop
     μ-loop
-    (λ c. (omega arith, none _ 16 _ refl))
-    (λ c κs. (c .before .before .pre, (omega arith, omega arith)))
-    (λ c. omega arith)
-    (λ c. omega arith)
-    (λ c. omega arith)
-    (λ c κs. (c .before .before .before .pre, (omega arith, omega arith)))
-    (λ c. omega arith)
-    (λ c. omega arith)
-    (λ c. omega arith)
-    (λ c. omega arith)
-    (λ c κs. (c .before .before .before .before .pre, (omega arith, omega arith)))
+    (λ c. (omega arith, none _ 16 _ (c .pre .1)))
+    (λ c κs. (c .before .before .pre .0, (omega arith, omega arith)))
+    (λ c κs. (c .before .before .before .pre .0, (omega arith, omega arith)))
+    (λ c κs. (c .before .before .before .before .pre .0, (omega arith, omega arith)))
+    (λ c κs. (c .before .before .before .before .before .pre .0, (omega arith, omega arith)))
     (λ c. omega arith)
     (λ c. omega arith)
     (λ c. omega arith)
     (λ c. omega arith)
-    (λ c κs. (c .before .before .before .before .before .pre, (omega arith, omega arith)))
+    (λ c. omega arith)
+    (λ c. omega arith)
+    (λ c. omega arith)
+    (λ c. omega arith)
+    (λ c. omega arith)
+    (λ c. omega arith)
+    (λ c. omega arith)
     (λ c. omega arith)
     (λ c. omega arith)
     (λ c. omega arith)

@@ -14,7 +14,7 @@ use Rattle.basis.specs.Basis.{basisTable}
 use Rattle.basis.proofs.Rule.{table-entry}
 use Rattle.quantize.specs.Quantize.{coefficient}
 use Rattle.forward.specs.Sum.{sumTo}
-use Rattle.forward.specs.Forward.{foldSum}
+use Rattle.forward.specs.Parity.{foldSum}
 use Rattle.forward.proofs.Sum.{sum-ext}
 use Rattle.forward.proofs.Scaled.{sum-size}
 use Rattle.fdct_block.proofs.sums.quantized.Statement.{statement}
