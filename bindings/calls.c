@@ -370,6 +370,41 @@ static void same_blocks(void)
     WROTE(name, 1);
 }
 
+/* Quantizers 0 to 63 at 1, 100 and 200 percent, and 255 at 200. */
+static void percents(void)
+{
+    static const char name[] = "jpeg_block_percent_table";
+    uint8_t base[65];
+    int i;
+    OUTPUT(uint8_t);
+    for (i = 0; i < 65; i++) {
+        base[i] = (uint8_t)i;
+    }
+    REFUSED(name, jpeg_block_percent_table(base, 63, 0, output, 63), 2);
+    REFUSED(name, jpeg_block_percent_table(base, 65, 100, output, 64), 2);
+    REFUSED(name, jpeg_block_percent_table(NULL, 0, 0, NULL, 0), 2);
+    REFUSED(name, jpeg_block_percent_table(base, 64, 0, output, 63), 3);
+    REFUSED(name, jpeg_block_percent_table(base, 64, 201, output, 65), 3);
+    REFUSED(name, jpeg_block_percent_table(base, 64, 100, NULL, 0), 3);
+    REFUSED(name, jpeg_block_percent_table(base, 64, 0, output, 64), 11);
+    REFUSED(name, jpeg_block_percent_table(base, 64, 201, output, 64), 11);
+    REFUSED(name, jpeg_block_percent_table(base, 64, UINT32_MAX, output, 64), 11);
+    expect(jpeg_block_percent_table(base, 64, 1, output, 64) == 0, name, "is refused");
+    for (i = 0; i < 64; i++) {
+        expect(output[i] == 1, name, "a divisor at 1 percent");
+    }
+    expect(jpeg_block_percent_table(base, 64, 100, output, 64) == 0, name, "is refused");
+    for (i = 0; i < 64; i++) {
+        expect(output[i] == (i == 0 ? 1 : i), name, "a divisor at 100 percent");
+    }
+    base[63] = 255;
+    expect(jpeg_block_percent_table(base, 64, 200, output, 64) == 0, name, "is refused");
+    for (i = 0; i < 64; i++) {
+        expect(output[i] == (i == 0 ? 1 : i == 63 ? 255 : 2 * i), name, "a divisor at 200 percent");
+    }
+    WROTE(name, 64);
+}
+
 int main(void)
 {
     inverse_blocks();
@@ -382,6 +417,7 @@ int main(void)
     dequantized();
     screened();
     same_blocks();
+    percents();
     if (failures == 0) {
         printf("every call is as expected\n");
     }

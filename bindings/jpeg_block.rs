@@ -167,6 +167,13 @@ pub mod raw {
             yes: *mut u8,
             yes_len: usize,
         ) -> u32;
+        pub fn jpeg_block_percent_table(
+            base: *const u8,
+            base_len: usize,
+            percent: u32,
+            out: *mut u8,
+            out_len: usize,
+        ) -> u32;
     }
 }
 
@@ -454,4 +461,22 @@ pub fn same(a: &[i16], b: &[i16]) -> Result<bool, u32> {
         )
     };
     answer(status, place[0] == 1)
+}
+
+/// A table by percent: each quantizer of the base table times the percent, plus
+/// 50, divided by 100 and rounded down, then held to 1..255. Refusals: 2, a base
+/// table not of 64; 3, an output not of 64; 11, a percent outside 1 to 200.
+#[inline]
+pub fn percent_table(base: &[u8], percent: u32, out: &mut [u8]) -> Result<(), u32> {
+    // SAFETY: both are slices, and an exclusive one overlaps no other.
+    let status = unsafe {
+        raw::jpeg_block_percent_table(
+            base.as_ptr(),
+            base.len(),
+            percent,
+            out.as_mut_ptr(),
+            out.len(),
+        )
+    };
+    answer(status, ())
 }

@@ -13,6 +13,7 @@
  *   5  a quantizer 0 anywhere
  *   8  a width or height of 0 or above 4096
  *   9  samples that are not width times height
+ *  11  a percent outside 1 to 200
  *
  * Quantizers are of 8 bits: a table of T.81 with 16-bit entries is not taken.
  *
@@ -41,6 +42,7 @@ extern "C" {
 #define JPEG_BLOCK_REFUSED_QUANTIZER 5
 #define JPEG_BLOCK_REFUSED_SIZE 8
 #define JPEG_BLOCK_REFUSED_SAMPLES 9
+#define JPEG_BLOCK_REFUSED_PERCENT 11
 
 /* The inverse transforms (ISLOW) of 64 dequantized coefficients. Refusals 1, 3. */
 
@@ -108,6 +110,10 @@ uint32_t jpeg_block_fdct_quantize_plane(const uint8_t *samples, size_t samples_l
 uint32_t jpeg_block_islow_plane(const int16_t *coefficients, size_t coefficients_len, size_t width, size_t height, const uint8_t *quant, size_t quant_len, uint8_t *output, size_t output_len);
 uint32_t jpeg_block_islow_plane_4x4(const int16_t *coefficients, size_t coefficients_len, size_t width, size_t height, const uint8_t *quant, size_t quant_len, uint8_t *output, size_t output_len);
 uint32_t jpeg_block_islow_plane_2x2(const int16_t *coefficients, size_t coefficients_len, size_t width, size_t height, const uint8_t *quant, size_t quant_len, uint8_t *output, size_t output_len);
+
+/* A table by percent, 1 to 200: each quantizer of the base table times the percent, plus 50, divided by 100 and rounded down, then held to
+ * 1..255; out_len 64. A larger percent makes no divisor smaller and no zero coefficient nonzero. Refusals 2, 3, 11. */
+uint32_t jpeg_block_percent_table(const uint8_t *base, size_t base_len, uint32_t percent, uint8_t *out, size_t out_len);
 
 #ifdef __cplusplus
 }

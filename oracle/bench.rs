@@ -1,7 +1,7 @@
 //! Times every function of libjpeg_block.a beside the published Rust's, on the
-//! same inputs, in turn. The Rust has no dequantizing, screen or sameness; the
-//! plain loops below stand in its place. A plane's time is that of one block,
-//! beside the Rust's in a loop, and beside our own block entry's.
+//! same inputs, in turn. The Rust has no dequantizing, screen, sameness or table
+//! by percent; the plain loops below stand in its place. A plane's time is that
+//! of one block, beside the Rust's in a loop, and beside our own block entry's.
 //!
 //! No arguments: a line for each function and kind of block, `NAME KIND RUST_NS
 //! OURS_NS RATIO`, the medians over the rounds; with the beginning of a name,
@@ -149,6 +149,11 @@ rust! {
     }
     rust_same(input: &([i16; 64], [i16; 64]), output: &mut bool) {
         *output = input.0 == input.1;
+    }
+    rust_percent_table(input: &([u8; 64], u32), output: &mut [u8; 64]) {
+        for n in 0..64 {
+            output[n] = ((u32::from(input.0[n]) * input.1 + 50) / 100).clamp(1, 255) as u8;
+        }
     }
 }
 
@@ -604,6 +609,16 @@ fn main() {
             *output = jpeg_block::same(a, b).expect("no refusal");
         });
     }
+    mode.run(
+        "percent_table",
+        "random",
+        &many(|r| (table(r), 1 + r.below(200) as u32)),
+        [0; 64],
+        rust_percent_table,
+        |(base, percent), output| {
+            black_box(jpeg_block::percent_table(base, *percent, output)).expect("no refusal");
+        },
+    );
     if let Mode::Kinds(kinds) = mode {
         println!("{}", kinds.join(" "));
     }

@@ -1,5 +1,5 @@
 //! Compares every function of libjpeg_block.a with the published Rust, and
-//! those that it does not have with stored.rs, on many inputs.
+//! those that it does not have with stored.rs and percents.rs, on many inputs.
 //!
 //! Arguments: the seconds to spend, and the seed. Each function is first called
 //! with lengths around every one that it takes. Then all are asked for a list of
@@ -22,6 +22,7 @@ mod guarded;
 mod jpeg_block;
 #[allow(dead_code)]
 mod numbers;
+mod percents;
 #[allow(dead_code)]
 mod planes;
 #[allow(dead_code)]
@@ -34,6 +35,7 @@ use j2k_codec_math::jpeg::{fdct, idct};
 use j2k_encoder::Divisors;
 use jpeg_block::raw;
 use numbers::{ends, least, most, powers, Number, Random, SEED};
+use percents::{every_share, shares_from, Share};
 use planes::{any_coded, any_plane, cut, every_size, sizes_from, together, Coded};
 use std::fmt::Debug;
 use std::time::{Duration, Instant};
@@ -306,6 +308,38 @@ fn coefficient(block: &[u8], quantizer: u8, natural: usize, out: &mut [i16]) -> 
         )
     }
 }
+
+fn percent_table(base: &[u8], percent: u32, out: &mut [u8]) -> u32 {
+    // SAFETY: both are slices, and an exclusive one overlaps no other.
+    unsafe {
+        raw::jpeg_block_percent_table(
+            base.as_ptr(),
+            base.len(),
+            percent,
+            out.as_mut_ptr(),
+            out.len(),
+        )
+    }
+}
+
+/// Percents around the first and the last that is taken, and such that end in
+/// one that is, at 8 and at 16 bits.
+const PERCENTS: [u32; 14] = [
+    0,
+    1,
+    2,
+    100,
+    199,
+    200,
+    201,
+    255,
+    256,
+    257,
+    65_535,
+    65_636,
+    u32::MAX - 1,
+    u32::MAX,
+];
 
 /// A call on a plane: its input, width, height, table and output.
 type PlaneCall<A, S> =
@@ -954,6 +988,51 @@ impl Compare {
             |input| written([stored::same(*input)]),
         );
     }
+
+    /// Not in the published Rust: percents.rs computes these in its own way.
+    /// Every percent with every quantizer first, then random tables.
+    fn percents(&mut self) {
+        let mut tally = Tally::new("percent_table");
+        for a in LENGTHS {
+            for out in LENGTHS {
+                for percent in PERCENTS {
+                    let number = if a != 64 {
+                        2
+                    } else if out != 64 {
+                        3
+                    } else if !(1..=200).contains(&percent) {
+                        11
+                    } else {
+                        0
+                    };
+                    let base = vec![200; a];
+                    tally.length(number, out, (a, out, percent), |to: &mut [u8]| {
+                        percent_table(&base, percent, to)
+                    });
+                }
+            }
+        }
+        let first = self.seed;
+        self.inputs(
+            tally,
+            move |seed| {
+                if seed == first {
+                    every_share()
+                } else {
+                    shares_from(seed, LIST)
+                }
+            },
+            |(base, percent): &Share| guarded(|to| percent_table(base, u32::from(*percent), to)),
+            |share| match percents::table(*share) {
+                Ok(table) => written(table),
+                Err(status) => Left {
+                    status,
+                    output: [u8::FILL; 64],
+                    guards: true,
+                },
+            },
+        );
+    }
 }
 
 /// The first sample of a decoded plane that is not as expected, with its block.
@@ -995,6 +1074,7 @@ fn main() {
     compare.divisors();
     compare.guarded();
     compare.stored();
+    compare.percents();
     for list in 0.. {
         for function in &mut compare.functions {
             (function.try_list)(seed.wrapping_add(list), &mut function.tally);

@@ -3,11 +3,10 @@
 -- Assumes nothing.
 use mathlib.Core.Path.{_≡_, refl, sym, ap, _∙_, subst}
 use mathlib.Core.Bool.{Bool, true, false}
-use Prim.Native.Nat.{ℕ, suc, _+_, _-_, _*_, _/_, _%_, _^_, _≤_, _<_, min}
+use Prim.Native.Nat.{ℕ, suc, _+_, _-_, _*_, _/_, _^_, _≤_, _<_, min}
 use native.Mathlib.Decide.{decLt}
-use native.Mathlib.Nat.{le-trans, le-add-right, mod-le, mul-one, mul-pos, lt-of-lt-of-le, mul-le-mul-left, mul-le-mul-right, mul-lt-mul-of-pos-right, div-eq-of-lt, div-div-eq-div-mul, add-div-right, le-div-iff-mul-le}
+use native.Mathlib.Nat.{le-trans, le-add-right, mul-one, mul-pos, lt-of-lt-of-le, mul-le-mul-left, mul-le-mul-right, mul-lt-mul-of-pos-right, div-div-eq-div-mul, add-div-right, le-div-iff-mul-le}
 use native.Mathlib.Omega.{arith}
-use borrow.Author.Tests.{lt-leb}
 use lib.Dec.{T}
 use lib.IntN.{ℤ, pos, negsuc, negℤ, _-ℤ_}
 use lib.Pow.{pow-add, pow-pos, pow-mono, shr-lt}
@@ -21,6 +20,7 @@ use mir.ValLaws.{toZ-pos}
 use Rattle.integers.proofs.Word.{flipped}
 use Rattle.quantize.specs.Quantize.{rounded}
 use Rattle.quantize.proofs.Halves.{rounded-half}
+use Rattle.quantize.proofs.Zero.{below-half}
 use Rattle.guarded_quantizer.specs.Binary64.{toNearest, roundedToI16}
 use Rattle.guarded_quantizer.proofs.Fraction.{rounded-same}
 use Rattle.guarded_quantizer.proofs.Fields.{is-nan, shifts, weight, negative, exponent, digits, finite, normal, infinite, small}
@@ -45,10 +45,6 @@ pub fitting : {r : ℤ} (q : Float) → r ≡ roundedToI16 q → (r ≡ roundedT
 fitting q e = (e, subst (SFits w16) (sym e) (rounded-fits q))
 
 -- ---- `rounded`
-below-half : (a c : ℕ) → a * 2 < c → rounded a c ≡ 0
-unfolding rounded
-below-half a c h = let l : a < c = omega arith in rw (div-eq-of-lt l, lt-leb c (2 * (a % c)) (omega (arith, mod-le a c)))
-
 at-least : (n a c : ℕ) → 0 < c → n * c ≤ a → n ≤ rounded a c
 unfolding rounded
 at-least n a c C h = omega (arith, le-div-iff-mul-le C .1 h)

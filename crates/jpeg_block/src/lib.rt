@@ -10,3 +10,4 @@ mod inverse_i32;
 mod place;
 mod planes;
 mod stored;
+mod tables;
