@@ -1,10 +1,10 @@
--- Rounding by adding half the divisor: what the code computes.
+-- Rounding by adding half the divisor, as other steps than `quantize` do it; and the sign of a coefficient.
 -- Assumes nothing.
 use mathlib.Core.Path.{_≡_, refl, sym, ap, subst, _∙_}
 use mathlib.Core.Bool.{Bool, true, false, cond}
 use Prim.Native.Nat.{ℕ, zero, suc, _+_, _*_, _/_, _%_, _^_, _<_, _≤_}
 use native.Mathlib.Decide.{decLe}
-use native.Mathlib.Nat.{div-add-mod', mod-lt, mul-add-div-right, div-eq-of-lt, div-eq-of-lt-le, div-div-eq-div-mul, div-lt-iff-lt-mul}
+use native.Mathlib.Nat.{div-add-mod', mod-lt, mul-add-div-right, div-eq-of-lt, div-eq-of-lt-le}
 use native.Mathlib.Omega.{arith}
 use borrow.Author.Tests.{le-leb, lt-leb, ltb-true}
 use lib.Dec.{leb}
@@ -31,25 +31,16 @@ rounded-half a h p =
     go (yes l) s = div-eq-of-lt-le (2 * h) (omega arith) (omega arith) ∙ sym (ap (λ (t : Bool). cond t 1 0) (le-leb (2 * h) (2 * (a % (2 * h))) l))
     go (no l) s = div-eq-of-lt (omega arith) ∙ sym (ap (λ (t : Bool). cond t 1 0) (lt-leb (2 * h) (2 * (a % (2 * h))) (omega arith)))
 
--- in two steps, a shift and a division by d
-pub rounded-steps : (a d : ℕ) → 0 < d → (a + d * 2 ^ 31) / 2 ^ 32 / d ≡ rounded a (d * 2 ^ 32)
-rounded-steps a d p =
-    let unit : 2 ^ 32 * d ≡ 2 * (d * 2 ^ 31) = omega arith in
-    let unit′ : 2 * (d * 2 ^ 31) ≡ d * 2 ^ 32 = omega arith in
-    div-div-eq-div-mul (a + d * 2 ^ 31) (2 ^ 32) d ∙ ap (λ (m : ℕ). (a + d * 2 ^ 31) / m) unit ∙ rounded-half a (d * 2 ^ 31) (omega arith) ∙ ap (rounded a) unit′
-
--- ---- as the code has them: a is the absolute value of S, d the divisor
-
-module _ (a d : ℕ) (bound : a ≤ 2 ^ 46) (least : 0 < d) (most : d < 2 ^ 16) where
-  pub size-fits : (a + d * 2 ^ 31) / 2 ^ 32 < 2 ^ 16
-  size-fits = omega arith
-
-  pub quotient-fits : (a + d * 2 ^ 31) / 2 ^ 32 / d < 2 ^ 15
-  quotient-fits = div-lt-iff-lt-mul least .1 (omega arith)
+-- ---- the sign, as the code gives it
 
 neg-fits : (n : ℕ) → n < 2 ^ 15 → SFits w16 (negℤ (pos n))
 neg-fits zero h = record { sfits = h }
 neg-fits (suc n) h = record { sfits = omega arith }
+
+pub sign-fits : (S : ℤ) {n : ℕ} → n < 2 ^ 15 → SFits w16 (withSign S n)
+unfolding withSign
+sign-fits (pos k) h = record { sfits = h }
+sign-fits (negsuc k) {n} h = neg-fits n h
 
 below : (S : ℤ) (n : ℕ) → ltZ S (pos 0) ≡ true → negℤ (pos n) ≡ withSign S n
 unfolding withSign
@@ -65,10 +56,6 @@ pub sign-size : (S : ℤ) (k : ℕ) → natAbs (withSign S k) ≡ k
 unfolding withSign
 sign-size (pos n) k = refl
 sign-size (negsuc n) k = natAbs-neg (pos k)
-
--- what the code gives for the sign, with its absolute value
-pub sized : (S : ℤ) {r : ℤ} {n m : ℕ} → n < 2 ^ 15 → r ≡ withSign S n → n ≡ m → (r ≡ withSign S m) × (natAbs r < 2 ^ 15)
-sized S {n} h e steps = (e ∙ ap (withSign S) steps, subst (λ (z : ℤ). natAbs z < 2 ^ 15) (sym e) (omega (arith, sign-size S n)))
 
 module _ {n : ℕ} (h : n < 2 ^ 15) where
   opposite : pos 0 -ℤ toZ w16 n ≡ negℤ (pos n)

@@ -1,2 +1,3 @@
+pub mod Remainder
 pub mod Halves
 pub mod Zero
