@@ -42,8 +42,8 @@ fn scaled_divisor(quantizer: u16) -> u64
     (divisor(quantizer) as u64) * 0x1_0000_0000
 }
 
-// The divisor's low 32 bits are zero: floor(a / (d·2^32)) = floor(floor(a / 2^32) / d), one division of 32 bits, which is faster than one of
-// 64 on every processor.
+// The divisor's low 32 bits are zero: floor(a / (d·2^32)) = floor(floor(a / 2^32) / d), one division of 32 bits. One of 64 takes several
+// times as long on older processors.
 fn divide(size: u64, divisor: u64) -> Division
     requires { ⌜ size ≤ 2 ^ 46 ⌝ }
     requires { ⌜ (0 < divisor) × (divisor < 2 ^ 48) × (divisor % 2 ^ 32 ≡ 0) ⌝ }
