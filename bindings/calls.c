@@ -257,30 +257,38 @@ static void guarded(void)
     double divisors[65];
     int16_t dc[2] = {7, 7}, canonical[1];
     uint64_t bitmap[2] = {7, 7}, expected = 0;
+    uint8_t table[65];
     int i, u;
     OUTPUT(int16_t);
     for (i = 0; i < 65; i++) {
         block[i] = i % 8 < 4 ? 0 : 255;
         quant[i] = 10;
         divisors[i] = 0.0;
+        table[i] = 7;
     }
     expect(jpeg_block_quantization_divisors(quant, 64, divisors, 64) == 0, name, "no divisors");
-    REFUSED(name, jpeg_block_fdct_quantize_guarded(block, 63, quant, 63, divisors, 63, dc, 0, output, 63, bitmap, 0), 1);
-    REFUSED(name, jpeg_block_fdct_quantize_guarded(NULL, 0, NULL, 0, NULL, 0, NULL, 0, NULL, 0, NULL, 0), 1);
-    REFUSED(name, jpeg_block_fdct_quantize_guarded(block, 64, quant, 65, divisors, 63, dc, 0, output, 63, bitmap, 0), 2);
-    REFUSED(name, jpeg_block_fdct_quantize_guarded(block, 64, quant, 64, divisors, 63, dc, 0, output, 63, bitmap, 0), 2);
-    REFUSED(name, jpeg_block_fdct_quantize_guarded(block, 64, quant, 64, divisors, 65, dc, 1, output, 64, bitmap, 1), 2);
-    REFUSED(name, jpeg_block_fdct_quantize_guarded(block, 64, quant, 64, divisors, 64, dc, 0, output, 64, bitmap, 1), 3);
-    REFUSED(name, jpeg_block_fdct_quantize_guarded(block, 64, quant, 64, divisors, 64, dc, 2, output, 64, bitmap, 1), 3);
-    REFUSED(name, jpeg_block_fdct_quantize_guarded(block, 64, quant, 64, divisors, 64, dc, 1, output, 63, bitmap, 1), 3);
-    REFUSED(name, jpeg_block_fdct_quantize_guarded(block, 64, quant, 64, divisors, 64, dc, 1, output, 65, bitmap, 1), 3);
-    REFUSED(name, jpeg_block_fdct_quantize_guarded(block, 64, quant, 64, divisors, 64, dc, 1, output, 64, bitmap, 0), 3);
-    REFUSED(name, jpeg_block_fdct_quantize_guarded(block, 64, quant, 64, divisors, 64, dc, 1, output, 64, bitmap, 2), 3);
+    REFUSED(name, jpeg_block_fdct_quantize_guarded(block, 63, quant, 63, divisors, 63, dc, 0, output, 63, bitmap, 0, table, 0), 1);
+    REFUSED(name, jpeg_block_fdct_quantize_guarded(NULL, 0, NULL, 0, NULL, 0, NULL, 0, NULL, 0, NULL, 0, NULL, 0), 1);
+    REFUSED(name, jpeg_block_fdct_quantize_guarded(block, 64, quant, 65, divisors, 63, dc, 0, output, 63, bitmap, 0, table, 0), 2);
+    REFUSED(name, jpeg_block_fdct_quantize_guarded(block, 64, quant, 64, divisors, 63, dc, 0, output, 63, bitmap, 0, table, 0), 2);
+    REFUSED(name, jpeg_block_fdct_quantize_guarded(block, 64, quant, 64, divisors, 65, dc, 1, output, 64, bitmap, 1, table, 64), 2);
+    REFUSED(name, jpeg_block_fdct_quantize_guarded(block, 64, quant, 64, divisors, 64, dc, 0, output, 64, bitmap, 1, table, 64), 3);
+    REFUSED(name, jpeg_block_fdct_quantize_guarded(block, 64, quant, 64, divisors, 64, dc, 2, output, 64, bitmap, 1, table, 64), 3);
+    REFUSED(name, jpeg_block_fdct_quantize_guarded(block, 64, quant, 64, divisors, 64, dc, 1, output, 63, bitmap, 1, table, 64), 3);
+    REFUSED(name, jpeg_block_fdct_quantize_guarded(block, 64, quant, 64, divisors, 64, dc, 1, output, 65, bitmap, 1, table, 64), 3);
+    REFUSED(name, jpeg_block_fdct_quantize_guarded(block, 64, quant, 64, divisors, 64, dc, 1, output, 64, bitmap, 0, table, 64), 3);
+    REFUSED(name, jpeg_block_fdct_quantize_guarded(block, 64, quant, 64, divisors, 64, dc, 1, output, 64, bitmap, 2, table, 64), 3);
+    REFUSED(name, jpeg_block_fdct_quantize_guarded(block, 64, quant, 64, divisors, 64, dc, 1, output, 64, bitmap, 1, table, 63), 3);
+    REFUSED(name, jpeg_block_fdct_quantize_guarded(block, 64, quant, 64, divisors, 64, dc, 1, output, 64, bitmap, 1, table, 65), 3);
     quant[63] = 0;
-    REFUSED(name, jpeg_block_fdct_quantize_guarded(block, 64, quant, 64, divisors, 63, dc, 0, output, 63, bitmap, 0), 5);
+    REFUSED(name, jpeg_block_fdct_quantize_guarded(block, 64, quant, 64, divisors, 63, dc, 0, output, 63, bitmap, 0, table, 0), 5);
     quant[63] = 10;
     expect(dc[0] == 7 && dc[1] == 7 && bitmap[0] == 7 && bitmap[1] == 7, name, "a refused call wrote");
-    expect(jpeg_block_fdct_quantize_guarded(block, 64, quant, 64, divisors, 64, dc, 1, output, 64, bitmap, 1) == 0, name, "is refused");
+    for (i = 0; i < 65; i++) {
+        expect(table[i] == 7, name, "a refused call wrote a divisor");
+    }
+    quant[63] = 200;
+    expect(jpeg_block_fdct_quantize_guarded(block, 64, quant, 64, divisors, 64, dc, 1, output, 64, bitmap, 1, table, 64) == 0, name, "is refused");
     expect(jpeg_block_fdct_quantize_coefficient(block, 64, 10, 0, canonical, 1) == 0, name, "no canonical DC");
     expect(dc[0] == canonical[0] && dc[1] == 7, name, "DC");
     for (u = 0; u < 4; u++) {
@@ -293,6 +301,10 @@ static void guarded(void)
         expect(output[i] == 0, name, "an AC coefficient that is not zero");
     }
     expect(bitmap[0] == expected && bitmap[1] == 7, name, "the bitmap");
+    for (i = 0; i < 64; i++) {
+        expect(table[i] == quant[i], name, "a divisor of the record");
+    }
+    expect(table[64] == 7, name, "wrote after the divisors");
     WROTE(name, 64);
 }
 
@@ -370,6 +382,35 @@ static void same_blocks(void)
     WROTE(name, 1);
 }
 
+static void same_recorded(void)
+{
+    static const char name[] = "jpeg_block_same_records";
+    int16_t a[65] = {0}, b[65] = {0};
+    uint8_t q[65] = {0}, r[65] = {0};
+    OUTPUT(uint8_t);
+    REFUSED(name, jpeg_block_same_records(1, a, 63, q, 63, 1, b, 64, r, 64, output, 0), 1);
+    REFUSED(name, jpeg_block_same_records(1, a, 64, q, 63, 1, b, 65, r, 64, output, 0), 1);
+    REFUSED(name, jpeg_block_same_records(1, a, 64, q, 65, 1, b, 64, r, 64, output, 0), 2);
+    REFUSED(name, jpeg_block_same_records(1, a, 64, q, 64, 1, b, 64, r, 63, output, 0), 2);
+    REFUSED(name, jpeg_block_same_records(0, NULL, 0, NULL, 0, 0, NULL, 0, NULL, 0, NULL, 0), 1);
+    REFUSED(name, jpeg_block_same_records(1, a, 64, q, 64, 1, b, 64, r, 64, output, 0), 3);
+    REFUSED(name, jpeg_block_same_records(1, a, 64, q, 64, 1, b, 64, r, 64, output, 2), 3);
+    a[0] = 5;
+    b[64] = 1;
+    r[64] = 1;
+    expect(jpeg_block_same_records(-1, a, 64, q, 64, -1, b, 64, r, 64, output, 1) == 0, name, "is refused");
+    expect(output[0] == 1, name, "records that differ at AC place 0 alone");
+    expect(jpeg_block_same_records(-1, a, 64, q, 64, 1, b, 64, r, 64, output, 1) == 0, name, "is refused");
+    expect(output[0] == 0, name, "records that differ in DC");
+    b[63] = -1;
+    expect(jpeg_block_same_records(1, a, 64, q, 64, 1, b, 64, r, 64, output, 1) == 0, name, "is refused");
+    expect(output[0] == 0, name, "records that differ at AC place 63");
+    r[63] = 1;
+    expect(jpeg_block_same_records(1, a, 64, q, 64, 1, a, 64, r, 64, output, 1) == 0, name, "is refused");
+    expect(output[0] == 0, name, "records that differ at divisor 63");
+    WROTE(name, 1);
+}
+
 /* Quantizers 0 to 63 at 1, 100 and 200 percent, and 255 at 200. */
 static void percents(void)
 {
@@ -417,6 +458,7 @@ int main(void)
     dequantized();
     screened();
     same_blocks();
+    same_recorded();
     percents();
     if (failures == 0) {
         printf("every call is as expected\n");

@@ -112,6 +112,22 @@ pub mod raw {
             ac_len: usize,
             nonzero_ac: *mut u64,
             nonzero_ac_len: usize,
+            record_divisors: *mut u8,
+            record_divisors_len: usize,
+        ) -> u32;
+        pub fn jpeg_block_same_records(
+            a_dc: i16,
+            a_ac: *const i16,
+            a_ac_len: usize,
+            a_divisors: *const u8,
+            a_divisors_len: usize,
+            b_dc: i16,
+            b_ac: *const i16,
+            b_ac_len: usize,
+            b_divisors: *const u8,
+            b_divisors_len: usize,
+            yes: *mut u8,
+            yes_len: usize,
         ) -> u32;
         pub fn jpeg_block_dequantize(
             coefficients: *const i16,
@@ -318,12 +334,15 @@ pub fn quantization_divisors(quant: &[u8]) -> Result<[f64; 64], u32> {
 }
 
 /// What the guarded quantizer gives: DC, the AC coefficients in zigzag order,
-/// place 0 being 0, and the bitmap whose bit 64 - z is set when place z is not 0.
+/// place 0 being 0, the bitmap whose bit 64 - z is set when place z is not 0,
+/// and the quantizer table, in natural order. `same_records` compares two; `==`
+/// looks at the bitmap and at place 0 too.
 #[derive(Clone, Copy, Debug, PartialEq)]
 pub struct QuantizedBlock {
     pub dc: i16,
     pub ac_coefficients: [i16; 64],
     pub nonzero_ac: u64,
+    pub divisors: [u8; 64],
 }
 
 /// The guarded quantizer. Refusals: 1, a block not of 64 places; 2, a table not
@@ -334,8 +353,14 @@ pub fn fdct_quantize_guarded(
     quant: &[u8],
     divisors: &[f64; 64],
 ) -> Result<QuantizedBlock, u32> {
-    let (mut dc, mut ac_coefficients, mut nonzero_ac) = ([0], [0; 64], [0]);
-    // SAFETY: all are slices, and the outputs are this function's own.
+    let mut made = QuantizedBlock {
+        dc: 0,
+        ac_coefficients: [0; 64],
+        nonzero_ac: 0,
+        divisors: [0; 64],
+    };
+    // SAFETY: the inputs are slices, and the outputs the parts of this
+    // function's own record.
     let status = unsafe {
         raw::jpeg_block_fdct_quantize_guarded(
             block.as_ptr(),
@@ -344,24 +369,44 @@ pub fn fdct_quantize_guarded(
             quant.len(),
             divisors.as_ptr(),
             divisors.len(),
-            dc.as_mut_ptr(),
-            dc.len(),
-            ac_coefficients.as_mut_ptr(),
-            ac_coefficients.len(),
-            nonzero_ac.as_mut_ptr(),
-            nonzero_ac.len(),
+            &mut made.dc,
+            1,
+            made.ac_coefficients.as_mut_ptr(),
+            made.ac_coefficients.len(),
+            &mut made.nonzero_ac,
+            1,
+            made.divisors.as_mut_ptr(),
+            made.divisors.len(),
         )
     };
-    let [dc] = dc;
-    let [nonzero_ac] = nonzero_ac;
-    answer(
-        status,
-        QuantizedBlock {
-            dc,
-            ac_coefficients,
-            nonzero_ac,
-        },
-    )
+    answer(status, made)
+}
+
+/// Whether two records have the same DC, the same AC places 1 to 63 and the same
+/// divisors, whatever their bitmaps and AC place 0 hold. A record has no wrong
+/// length, so nothing is refused.
+#[inline]
+pub fn same_records(a: &QuantizedBlock, b: &QuantizedBlock) -> bool {
+    let mut place = [0];
+    // SAFETY: all are arrays, and the place is this function's own.
+    let status = unsafe {
+        raw::jpeg_block_same_records(
+            a.dc,
+            a.ac_coefficients.as_ptr(),
+            a.ac_coefficients.len(),
+            a.divisors.as_ptr(),
+            a.divisors.len(),
+            b.dc,
+            b.ac_coefficients.as_ptr(),
+            b.ac_coefficients.len(),
+            b.divisors.as_ptr(),
+            b.divisors.len(),
+            place.as_mut_ptr(),
+            place.len(),
+        )
+    };
+    debug_assert_eq!(status, 0);
+    place[0] == 1
 }
 
 /// Each coefficient times its quantizer, 0 counting as 1. Refusals: 1, a block

@@ -6,7 +6,7 @@
  * Each buffer is a pointer and its length, the number of elements and not of bytes. Each function returns 0, and has then written the
  * whole of its output; or a refusal's number, and has then written nothing:
  *
- *   1  an input block that is not of 64 places; coefficients of a plane that are not 64 for each block
+ *   1  an input block, or AC places of a record, not of 64; coefficients of a plane that are not 64 for each block
  *   2  a quantizer table, or divisors, not of 64
  *   3  an output of the wrong length
  *   4  an index above 63
@@ -79,9 +79,15 @@ uint32_t jpeg_block_fdct_quantize_coefficient(const uint8_t *block, size_t block
 uint32_t jpeg_block_quantization_divisors(const uint8_t *quant, size_t quant_len, double *out, size_t out_len);
 
 /* DC into dc[0], dc_len 1; the AC coefficients in zigzag order into ac, ac[0] being 0, ac_len 64; into nonzero_ac[0] the bitmap whose
- * bit 64 - z is set when ac[z] is not 0, nonzero_ac_len 1. The divisors are used as handed over, even if made from another table.
- * Refusals 1, 2, 5; then 2 for the divisors; 3 for any of the three outputs. */
-uint32_t jpeg_block_fdct_quantize_guarded(const uint8_t *block, size_t block_len, const uint8_t *quant, size_t quant_len, const double *divisors, size_t divisors_len, int16_t *dc, size_t dc_len, int16_t *ac, size_t ac_len, uint64_t *nonzero_ac, size_t nonzero_ac_len);
+ * bit 64 - z is set when ac[z] is not 0, nonzero_ac_len 1; the table's 64 quantizers into record_divisors, record_divisors_len 64. The
+ * divisors are used as handed over, even if made from another table; those of the record are always the table's.
+ * Refusals 1, 2, 5; then 2 for the divisors; 3 for any of the four outputs. */
+uint32_t jpeg_block_fdct_quantize_guarded(const uint8_t *block, size_t block_len, const uint8_t *quant, size_t quant_len, const double *divisors, size_t divisors_len, int16_t *dc, size_t dc_len, int16_t *ac, size_t ac_len, uint64_t *nonzero_ac, size_t nonzero_ac_len, uint8_t *record_divisors, size_t record_divisors_len);
+
+/* Into yes[0]: 1 when two records of the guarded quantizer have the same DC, the same ac[1] to ac[63] and the same 64 divisors, else 0;
+ * yes_len 1. ac[0] is not looked at, and the bitmap is not asked for. Refusals 1 for the AC places of either record, 2 for the divisors of
+ * either, 3. */
+uint32_t jpeg_block_same_records(int16_t a_dc, const int16_t *a_ac, size_t a_ac_len, const uint8_t *a_divisors, size_t a_divisors_len, int16_t b_dc, const int16_t *b_ac, size_t b_ac_len, const uint8_t *b_divisors, size_t b_divisors_len, uint8_t *yes, size_t yes_len);
 
 /* Blocks of 64 stored coefficients. */
 

@@ -19,6 +19,7 @@ mod planes;
 
 use j2k_codec_math::jpeg::{fdct, idct};
 use j2k_encoder::{Divisors, Quantized};
+use jpeg_block::QuantizedBlock;
 use numbers::{Random, SEED};
 use planes::{any_plane, blocks, cut, Plane};
 use std::hint::black_box;
@@ -149,6 +150,11 @@ rust! {
     }
     rust_same(input: &([i16; 64], [i16; 64]), output: &mut bool) {
         *output = input.0 == input.1;
+    }
+    rust_same_records(input: &(QuantizedBlock, QuantizedBlock), output: &mut bool) {
+        let (a, b) = input;
+        let numbers = a.dc == b.dc && a.ac_coefficients[1..] == b.ac_coefficients[1..];
+        *output = numbers && a.divisors == b.divisors;
     }
     rust_percent_table(input: &([u8; 64], u32), output: &mut [u8; 64]) {
         for n in 0..64 {
@@ -608,6 +614,24 @@ fn main() {
         mode.run("same", kind, &pairs, false, rust_same, |(a, b), output| {
             *output = jpeg_block::same(a, b).expect("no refusal");
         });
+        // Records that are the same, so that every place is looked at.
+        let record = |(ac_coefficients, divisors): &([i16; 64], [u8; 64])| QuantizedBlock {
+            dc: ac_coefficients[0],
+            ac_coefficients: *ac_coefficients,
+            nonzero_ac: 0,
+            divisors: *divisors,
+        };
+        let pairs: Vec<_> = stored.iter().map(|s| (record(s), record(s))).collect();
+        mode.run(
+            "same_records",
+            kind,
+            &pairs,
+            false,
+            rust_same_records,
+            |(a, b), output| {
+                *output = jpeg_block::same_records(a, b);
+            },
+        );
     }
     mode.run(
         "percent_table",

@@ -1,5 +1,6 @@
 //! Compares every function of libjpeg_block.a with the published Rust, and
-//! those that it does not have with stored.rs and percents.rs, on many inputs.
+//! those that it does not have with stored.rs, records.rs and percents.rs, on
+//! many inputs.
 //!
 //! Arguments: the seconds to spend, and the seed. Each function is first called
 //! with lengths around every one that it takes. Then all are asked for a list of
@@ -25,6 +26,7 @@ mod numbers;
 mod percents;
 #[allow(dead_code)]
 mod planes;
+mod records;
 #[allow(dead_code)]
 mod stored;
 
@@ -199,24 +201,27 @@ impl<S: Place> Lent<S> {
     }
 }
 
-/// The three outputs of the guarded quantizer.
+/// The four outputs of the guarded quantizer.
 struct Outputs {
     dc: Lent<i16>,
     ac: Lent<i16>,
     nonzero_ac: Lent<u64>,
+    divisors: Lent<u8>,
 }
 
 impl Outputs {
-    fn new((dc, ac, nonzero_ac): (usize, usize, usize)) -> Self {
+    fn new((dc, ac, nonzero_ac, divisors): (usize, usize, usize, usize)) -> Self {
         Outputs {
             dc: Lent::new(dc),
             ac: Lent::new(ac),
             nonzero_ac: Lent::new(nonzero_ac),
+            divisors: Lent::new(divisors),
         }
     }
 
     fn call(&mut self, block: &[u8], quant: &[u8], divisors: &[f64]) -> u32 {
         let (dc, ac, nonzero_ac) = (self.dc.places(), self.ac.places(), self.nonzero_ac.places());
+        let record_divisors = self.divisors.places();
         // SAFETY: all are slices, and an exclusive one overlaps no other.
         unsafe {
             raw::jpeg_block_fdct_quantize_guarded(
@@ -232,14 +237,17 @@ impl Outputs {
                 ac.len(),
                 nonzero_ac.as_mut_ptr(),
                 nonzero_ac.len(),
+                record_divisors.as_mut_ptr(),
+                record_divisors.len(),
             )
         }
     }
     fn kept(&self) -> bool {
-        self.dc.kept() && self.ac.kept() && self.nonzero_ac.kept()
+        self.dc.kept() && self.ac.kept() && self.nonzero_ac.kept() && self.divisors.kept()
     }
     fn guards(&self) -> bool {
-        self.dc.guards() && self.ac.guards() && self.nonzero_ac.guards()
+        let one = self.dc.guards() && self.nonzero_ac.guards();
+        one && self.ac.guards() && self.divisors.guards()
     }
 }
 
@@ -250,6 +258,8 @@ struct Record {
     dc: i16,
     ac: [i16; 64],
     nonzero_ac: u64,
+    /// Not in the published Rust: held to the table.
+    divisors: Table,
     guards: bool,
 }
 
@@ -303,6 +313,27 @@ fn coefficient(block: &[u8], quantizer: u8, natural: usize, out: &mut [i16]) -> 
             block.len(),
             quantizer,
             natural,
+            out.as_mut_ptr(),
+            out.len(),
+        )
+    }
+}
+
+/// Records as DC, AC places and divisors.
+fn same_records(a: (i16, &[i16], &[u8]), b: (i16, &[i16], &[u8]), out: &mut [u8]) -> u32 {
+    // SAFETY: all are slices, and an exclusive one overlaps no other.
+    unsafe {
+        raw::jpeg_block_same_records(
+            a.0,
+            a.1.as_ptr(),
+            a.1.len(),
+            a.2.as_ptr(),
+            a.2.len(),
+            b.0,
+            b.1.as_ptr(),
+            b.1.len(),
+            b.2.as_ptr(),
+            b.2.len(),
             out.as_mut_ptr(),
             out.len(),
         )
@@ -861,13 +892,14 @@ impl Compare {
         for a in LENGTHS {
             for b in LENGTHS {
                 for c in LENGTHS {
-                    inputs.push(((a, b, c), (1, 64, 1)));
-                    inputs.push(((a, b, c), (0, 63, 2)));
-                    inputs.push(((64, 64, 64), (a, b, c)));
+                    inputs.push(((a, b, c), (1, 64, 1, 64)));
+                    inputs.push(((a, b, c), (0, 63, 2, 65)));
+                    inputs.push(((64, 64, 64), (a, b, c, 64)));
+                    inputs.push(((64, 64, 64), (1, a, b, c)));
                 }
             }
         }
-        for ((a, b, c), (dc, ac, nonzero_ac)) in inputs {
+        for ((a, b, c), outputs_of) in inputs {
             let number = if a != 64 {
                 1
             } else if b != 64 {
@@ -876,14 +908,14 @@ impl Compare {
                 5
             } else if c != 64 {
                 2
-            } else if (dc, ac, nonzero_ac) != (1, 64, 1) {
+            } else if outputs_of != (1, 64, 1, 64) {
                 3
             } else {
                 0
             };
             let block: Vec<u8> = (0..a).map(|n| (37 * n) as u8).collect();
             let (quant, divisors) = (vec![quantizer; b], vec![0.125; c]);
-            let mut outputs = Outputs::new((dc, ac, nonzero_ac));
+            let mut outputs = Outputs::new(outputs_of);
             let status = outputs.call(&block, &quant, &divisors);
             let kept = if number == 0 {
                 outputs.guards()
@@ -896,7 +928,7 @@ impl Compare {
                     println!(
                         "{}: lengths {:?}, quantizer {quantizer}: {status} for {number}, buffers {}",
                         tally.name,
-                        ((a, b, c), (dc, ac, nonzero_ac)),
+                        ((a, b, c), outputs_of),
                         if kept { "kept" } else { "overwritten" }
                     );
                 }
@@ -922,13 +954,14 @@ impl Compare {
                 all
             },
             |(block, (quant, divisors)): &Handed| {
-                let mut outputs = Outputs::new((1, 64, 1));
+                let mut outputs = Outputs::new((1, 64, 1, 64));
                 let status = outputs.call(block, quant, divisors);
                 Record {
                     status,
                     dc: outputs.dc.held()[0],
                     ac: outputs.ac.held().try_into().expect("64 places"),
                     nonzero_ac: outputs.nonzero_ac.held()[0],
+                    divisors: outputs.divisors.held().try_into().expect("64 places"),
                     guards: outputs.guards(),
                 }
             },
@@ -940,6 +973,7 @@ impl Compare {
                         dc: i16::FILL,
                         ac: [i16::FILL; 64],
                         nonzero_ac: u64::FILL,
+                        divisors: [u8::FILL; 64],
                         guards: true,
                     };
                 }
@@ -949,6 +983,7 @@ impl Compare {
                     dc: made.dc,
                     ac: made.ac_coefficients,
                     nonzero_ac: made.nonzero_ac,
+                    divisors: *quant,
                     guards: true,
                 }
             },
@@ -986,6 +1021,38 @@ impl Compare {
             |seed| pairs_of_blocks_from(seed, LIST),
             |(a, b): &Pair| guarded(|to| call2(raw::jpeg_block_same, a, b, to)),
             |input| written([stored::same(*input)]),
+        );
+    }
+
+    /// Not in the published Rust: records.rs computes these in its own way.
+    fn records(&mut self) {
+        let mut tally = Tally::new("same_records");
+        for a in LENGTHS {
+            for b in LENGTHS {
+                for c in LENGTHS {
+                    for (ac, other, q, r) in [(a, b, c, 64), (64, a, b, c), (64, 64, a, b)] {
+                        let number = match (ac, other, q, r, c) {
+                            (64, 64, 64, 64, 1) => 0,
+                            (64, 64, 64, 64, _) => 3,
+                            (64, 64, _, _, _) => 2,
+                            _ => 1,
+                        };
+                        let one = (vec![5; ac], vec![7; q]);
+                        let two = (vec![5; other], vec![7; r]);
+                        tally.length(number, c, (ac, other, q, r, c), |to: &mut [u8]| {
+                            same_records((3, &one.0, &one.1), (3, &two.0, &two.1), to)
+                        });
+                    }
+                }
+            }
+        }
+        self.inputs(
+            tally,
+            |seed| records::pairs_from(seed, LIST),
+            |((dc, (ac, q)), (other_dc, (other_ac, r))): &records::Pair| {
+                guarded(|to| same_records((*dc, ac, q), (*other_dc, other_ac, r), to))
+            },
+            |input| written([records::same(*input)]),
         );
     }
 
@@ -1074,6 +1141,7 @@ fn main() {
     compare.divisors();
     compare.guarded();
     compare.stored();
+    compare.records();
     compare.percents();
     for list in 0.. {
         for function in &mut compare.functions {

@@ -16,15 +16,15 @@ use Rattle.guarded_quantizer.specs.Record.{recordOf}
 use Rattle.guarded_quantizer.specs.declared.QuantizedBlock.{QuantizedBlock}
 use Rattle.guarded_quantizer.specs.Answer.{coefficientsOf, guardedTests, quantized, zeroRecord, guardedAnswer}
 
-pub zeros : record { dc = pos 0; «ac_coefficients» = replicate 64 (pos 0); «nonzero_ac» = 0 } ≡ zeroRecord
+pub zeros : record { dc = pos 0; «ac_coefficients» = replicate 64 (pos 0); «nonzero_ac» = 0; divisors = replicate 64 0 } ≡ zeroRecord
 unfolding tab zeroRecord
 zeros = refl
 
 module _ (block quant : List ℕ) (rs : List Float) where
-  pub guarded-answer : {s : ℕ} {r : QuantizedBlock} → (s ≡ status (guardedTests block quant)) × (r ≡ written s (recordOf (coefficientsOf block quant rs)) zeroRecord) → quantized s r ≡ guardedAnswer block quant rs
+  pub guarded-answer : {s : ℕ} {r : QuantizedBlock} → (s ≡ status (guardedTests block quant)) × (r ≡ written s (recordOf quant (coefficientsOf block quant rs)) zeroRecord) → quantized s r ≡ guardedAnswer block quant rs
   unfolding guardedAnswer
-  guarded-answer = answered (recordOf (coefficientsOf block quant rs)) zeroRecord (guardedTests block quant) quantized
+  guarded-answer = answered (recordOf quant (coefficientsOf block quant rs)) zeroRecord (guardedTests block quant) quantized
 
-  pub by-constant : {t : Bool} → t ≡ constant block → recordOf (cond t (onlyDc block quant) (guarded block quant rs)) ≡ recordOf (coefficientsOf block quant rs)
+  pub by-constant : {t : Bool} → t ≡ constant block → recordOf quant (cond t (onlyDc block quant) (guarded block quant rs)) ≡ recordOf quant (coefficientsOf block quant rs)
   unfolding coefficientsOf
-  by-constant e = ap (λ (t : Bool). recordOf (cond t (onlyDc block quant) (guarded block quant rs))) e
+  by-constant e = ap (λ (t : Bool). recordOf quant (cond t (onlyDc block quant) (guarded block quant rs))) e

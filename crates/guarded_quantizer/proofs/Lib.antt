@@ -19,3 +19,5 @@ pub mod Guarded
 pub mod DcSum
 pub mod OnlyDc
 pub mod Answer
+pub mod Same
+pub mod Bare

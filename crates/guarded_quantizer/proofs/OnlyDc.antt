@@ -31,6 +31,6 @@ module _ (block quant : List ℕ) where
           let later = ac-index z (omega (arith, eqb-false z 0 q)) b .0 in
           ap (λ (t : Bool). cond t (canonical block quant 0) (pos 0)) (sym (ne-eqb (getD zigzagOrder z 0) 0 (λ i. omega arith)))
 
-  pub only-dc : {d : ℤ} {l : List ℤ} → d ≡ canonical block quant 0 → l ≡ tab 64 (λ _. pos 0) → made d l 0 ≡ recordOf (onlyDc block quant)
+  pub only-dc : {d : ℤ} {l : List ℤ} {q : List ℕ} → d ≡ canonical block quant 0 → l ≡ tab 64 (λ _. pos 0) → q ≡ quant → made d l 0 q ≡ recordOf quant (onlyDc block quant)
   unfolding onlyDc
-  only-dc e h = whole (onlyDc block quant) e (h ∙ no-ac) (sym (ap bitmapOf h ∙ bitmap-zeros))
+  only-dc e h t = whole quant (onlyDc block quant) e (h ∙ no-ac) (sym (ap bitmapOf h ∙ bitmap-zeros)) t

@@ -17,12 +17,12 @@ use Rattle.guarded_quantizer.specs.Bitmap.{bitmapOf}
 use Rattle.guarded_quantizer.specs.Record.{acPlaces, recordOf}
 use Rattle.guarded_quantizer.proofs.Order.{ac-index}
 
-abbrev pub made : ℤ → List ℤ → ℕ → QuantizedBlock
-made d l b = record { dc = d; «ac_coefficients» = l; «nonzero_ac» = b }
+abbrev pub made : ℤ → List ℤ → ℕ → List ℕ → QuantizedBlock
+made d l b q = record { dc = d; «ac_coefficients» = l; «nonzero_ac» = b; divisors = q }
 
-pub whole : (f : ℕ → ℤ) {d : ℤ} {l : List ℤ} {b : ℕ} → d ≡ f 0 → l ≡ acPlaces f → b ≡ bitmapOf l → made d l b ≡ recordOf f
+pub whole : (quant : List ℕ) (f : ℕ → ℤ) {d : ℤ} {l : List ℤ} {b : ℕ} {q : List ℕ} → d ≡ f 0 → l ≡ acPlaces f → b ≡ bitmapOf l → q ≡ quant → made d l b q ≡ recordOf quant f
 unfolding recordOf
-whole f e h k = λ i. made (e i) (h i) ((k ∙ ap bitmapOf h) i)
+whole quant f e h k t = λ i. made (e i) (h i) ((k ∙ ap bitmapOf h) i) (t i)
 
 -- AC place 0
 pub ac-first : (f : ℕ → ℤ) → getD (acPlaces f) 0 (pos 0) ≡ pos 0
@@ -49,9 +49,9 @@ ac-same f g e = tab-ext 64 (acAt f) (acAt g) (λ z b. go z b (eqb z 0) refl)
     go z b false q = e (getD zigzagOrder z 0) (ac-index z (omega (arith, eqb-false z 0 q)) b .1)
 
 -- the record of 64 coefficients
-pub record-tab : (f : ℕ → ℤ) {l : List ℤ} {r : QuantizedBlock} → l ≡ tab 64 f → r ≡ recordOf (λ n. getD l n (pos 0)) → r ≡ recordOf f
+pub record-tab : (quant : List ℕ) (f : ℕ → ℤ) {l : List ℤ} {r : QuantizedBlock} → l ≡ tab 64 f → r ≡ recordOf quant (λ n. getD l n (pos 0)) → r ≡ recordOf quant f
 unfolding recordOf
-record-tab f {l = l} e q = q ∙ whole f (value 0 (omega arith)) (ac-same (λ n. getD l n (pos 0)) f value) refl
+record-tab quant f {l = l} e q = q ∙ whole quant f (value 0 (omega arith)) (ac-same (λ n. getD l n (pos 0)) f value) refl refl
   where
     value : (n : ℕ) → n < 64 → getD l n (pos 0) ≡ f n
     value n h = ap (λ (t : List ℤ). getD t n (pos 0)) e ∙ getD-tab 64 f (pos 0) n h

@@ -25,9 +25,9 @@ abbrev pub quantized : ℕ → QuantizedBlock → Quantized
 quantized s r = record { status = s; block = r }
 
 unfoldable pub zeroRecord : QuantizedBlock
-zeroRecord = record { dc = pos 0; «ac_coefficients» = tab 64 (λ _. pos 0); «nonzero_ac» = 0 }
+zeroRecord = record { dc = pos 0; «ac_coefficients» = tab 64 (λ _. pos 0); «nonzero_ac» = 0; divisors = tab 64 (λ _. 0) }
 
 unfoldable pub guardedAnswer : List ℕ → List ℕ → List Float → Quantized
 guardedAnswer block quant reciprocals =
     let s = status (guardedTests block quant) in
-    quantized s (written s (recordOf (coefficientsOf block quant reciprocals)) zeroRecord)
+    quantized s (written s (recordOf quant (coefficientsOf block quant reciprocals)) zeroRecord)

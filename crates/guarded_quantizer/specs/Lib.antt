@@ -5,6 +5,7 @@ pub mod Divisors
 pub mod Binary64
 pub mod Bitmap
 pub mod Record
+pub mod Same
 pub mod Guarded
 pub mod Constant
 pub mod Answer

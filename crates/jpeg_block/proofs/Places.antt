@@ -87,52 +87,64 @@ module _ (xs : List Float) where
   handed-none h = simp (lacks h) refl
 
 -- where no test fails, the lengths are those wanted
-pub lengths : {s : ℕ} (number n d a b : ℕ) → s ≡ written number (status (recordTests n d a b)) number → s ≡ 0 → (n ≡ 64) × (d ≡ 1) × (a ≡ 64) × (b ≡ 1)
+pub lengths : {s : ℕ} (number n d a b q : ℕ) → s ≡ written number (status (recordTests n d a b q)) number → s ≡ 0 → (n ≡ 64) × (d ≡ 1) × (a ≡ 64) × (b ≡ 1) × (q ≡ 64)
 unfolding recordTests
-lengths number n d a b h e =
-    let all = passed-all (recordTests n d a b) tt (none-after number _ (sym h ∙ e)) in
-    (eqb-true _ _ (all .0), eqb-true _ _ (all .1 .0), eqb-true _ _ (all .1 .1 .0), eqb-true _ _ (all .1 .1 .1 .0))
+lengths number n d a b q h e =
+    let all = passed-all (recordTests n d a b q) tt (none-after number _ (sym h ∙ e)) in
+    (eqb-true _ _ (all .0), eqb-true _ _ (all .1 .0), eqb-true _ _ (all .1 .1 .0), eqb-true _ _ (all .1 .1 .1 .0), eqb-true _ _ (all .1 .1 .1 .1 .0))
 
 length-ac : (block quant : List ℕ) (rs : List Float) → length (guardedAnswer block quant rs .block .«ac_coefficients») ≡ 64
 unfolding guardedAnswer recordOf acPlaces zeroRecord
-length-ac block quant rs = either (λ (r : QuantizedBlock). length (r .«ac_coefficients») ≡ 64) (status (guardedTests block quant)) (recordOf (coefficientsOf block quant rs)) zeroRecord (length-tab 64 _) (length-tab 64 _)
+length-ac block quant rs = either (λ (r : QuantizedBlock). length (r .«ac_coefficients») ≡ 64) (status (guardedTests block quant)) (recordOf quant (coefficientsOf block quant rs)) zeroRecord (length-tab 64 _) (length-tab 64 _)
 
-module _ (block quant : List ℕ) (rs : List Float) (dc ac : List ℤ) (bitmap : List ℕ) {s : ℕ} {ds : List Float} (result : Quantized)
+length-divisors : (block quant : List ℕ) (rs : List Float) → length quant ≡ 64 → length (guardedAnswer block quant rs .block .divisors) ≡ 64
+unfolding guardedAnswer recordOf zeroRecord
+length-divisors block quant rs h = either (λ (r : QuantizedBlock). length (r .divisors) ≡ 64) (status (guardedTests block quant)) (recordOf quant (coefficientsOf block quant rs)) zeroRecord h (length-tab 64 _)
+
+module _ (block quant : List ℕ) (rs : List Float) (dc ac : List ℤ) (bitmap divisors : List ℕ) {s : ℕ} {ds : List Float} (result : Quantized)
     (called : result ≡ guardedAnswer block quant ds) (by-value : ds ≡ handed rs)
-    (tested : s ≡ written (result .status) (status (recordTests (length rs) (length dc) (length ac) (length bitmap))) (result .status)) where
+    (tested : s ≡ written (result .status) (status (recordTests (length rs) (length dc) (length ac) (length bitmap) (length divisors))) (result .status)) where
   abbrev tests : List Test
-  tests = guardedTests block quant ++ recordTests (length rs) (length dc) (length ac) (length bitmap)
+  tests = guardedTests block quant ++ recordTests (length rs) (length dc) (length ac) (length bitmap) (length divisors)
 
   abbrev answer : QuantizedBlock
   answer = guardedAnswer block quant rs .block
 
-  abbrev Recorded : ℕ → List ℤ → List ℤ → List ℕ → Type 0
-  Recorded r d a b =
-      (r ≡ status tests) × ((d ≡ written r (answer .dc ∷ []) dc) × ((a ≡ written r (answer .«ac_coefficients») ac) × (b ≡ written r (answer .«nonzero_ac» ∷ []) bitmap)))
+  abbrev Recorded : ℕ → List ℤ → List ℤ → List ℕ → List ℕ → Type 0
+  Recorded r d a b q =
+      (r ≡ status tests) × ((d ≡ written r (answer .dc ∷ []) dc) × ((a ≡ written r (answer .«ac_coefficients») ac)
+      × ((b ≡ written r (answer .«nonzero_ac» ∷ []) bitmap) × (q ≡ written r (answer .divisors) divisors))))
 
   by-tests : s ≡ status tests
   unfolding guardedAnswer
   by-tests = after (guardedTests block quant) _ tt (ap (λ (r : Quantized). r .status) called) tested
 
-  pub record-refused : (s ≡ 0 → ⊥) → Recorded s dc ac bitmap
-  record-refused h = (by-tests, (kept _ dc h, (kept _ ac h, kept _ bitmap h)))
+  pub record-refused : (s ≡ 0 → ⊥) → Recorded s dc ac bitmap divisors
+  record-refused h = (by-tests, (kept _ dc h, (kept _ ac h, (kept _ bitmap h, kept _ divisors h))))
 
   module _ (e : s ≡ 0) where
-    long : (length rs ≡ 64) × (length dc ≡ 1) × (length ac ≡ 64) × (length bitmap ≡ 1)
-    long = lengths _ _ _ _ _ tested e
+    long : (length rs ≡ 64) × (length dc ≡ 1) × (length ac ≡ 64) × (length bitmap ≡ 1) × (length divisors ≡ 64)
+    long = lengths _ _ _ _ _ _ tested e
+
+    table-long : length quant ≡ 64
+    unfolding recordTests
+    table-long = eqb-true _ _ (passed-all tests tt (sym by-tests ∙ e) .1 .0)
 
     same : result .block ≡ answer
     same = ap (λ (r : Quantized). r .block) (called ∙ ap (guardedAnswer block quant) (by-value ∙ sym (handed-all rs (long .0)) ∙ tab-getD nan rs 64 (long .0)))
 
-    pub record-stored : {x : ℤ} {y : List ℤ} → x ≡ result .block .dc → y ≡ tab 64 (λ z. getD (result .block .«ac_coefficients») z (pos 0)) →
-        Recorded 0 (set dc 0 x) y (set bitmap 0 (result .block .«nonzero_ac»))
-    record-stored {x} first all = (
+    pub record-stored : {x : ℤ} {y : List ℤ} {z : List ℕ} → x ≡ result .block .dc → y ≡ tab 64 (λ z. getD (result .block .«ac_coefficients») z (pos 0)) →
+        z ≡ tab 64 (λ n. getD (result .block .divisors) n 0) → Recorded 0 (set dc 0 x) y (set bitmap 0 (result .block .«nonzero_ac»)) z
+    record-stored {x} first all table = (
       sym e ∙ by-tests,
       (
         wrote _ dc refl (set-only dc x (long .1) ∙ ap (λ v. v ∷ []) (first ∙ ap (λ (r : QuantizedBlock). r .dc) same)),
         (
           wrote _ ac refl (all ∙ ap (λ (r : QuantizedBlock). tab 64 (λ z. getD (r .«ac_coefficients») z (pos 0))) same ∙ tab-getD (pos 0) _ 64 (length-ac block quant rs)),
-          wrote _ bitmap refl (set-only bitmap _ (long .3) ∙ ap (λ (r : QuantizedBlock). r .«nonzero_ac» ∷ []) same),
+          (
+            wrote _ bitmap refl (set-only bitmap _ (long .3) ∙ ap (λ (r : QuantizedBlock). r .«nonzero_ac» ∷ []) same),
+            wrote _ divisors refl (table ∙ ap (λ (r : QuantizedBlock). tab 64 (λ n. getD (r .divisors) n 0)) same ∙ tab-getD 0 _ 64 (length-divisors block quant rs table-long)),
+          ),
         ),
       ),
     )

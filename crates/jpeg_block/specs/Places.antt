@@ -5,8 +5,10 @@ use mathlib.Core.Bool.{Bool, cond}
 use mathlib.Core.List.{List, [], _∷_}
 use Prim.Native.Nat.{ℕ}
 use lib.Dec.{eqb}
+use lib.IntN.{ℤ}
 use lib.Ieee.{Float}
 use Rattle.refusals.specs.Refusals.{Test, _unless_, _of_}
+use Rattle.guarded_quantizer.specs.declared.QuantizedBlock.{QuantizedBlock}
 use Rattle.guarded_quantizer.specs.Divisors.{zeroDivisors}
 
 -- 3, a place not of one number
@@ -18,8 +20,17 @@ unfoldable pub flag : Bool → ℕ
 flag answer = cond answer 1 0
 
 -- the guarded quantizer, by the lengths: 2, divisors not of 64; 3, a place of the wrong length
-unfoldable pub recordTests : ℕ → ℕ → ℕ → ℕ → List Test
-recordTests reciprocals dc ac bitmap = 2 unless eqb reciprocals 64 ∷ 3 unless eqb dc 1 ∷ 3 unless eqb ac 64 ∷ 3 unless eqb bitmap 1 ∷ []
+unfoldable pub recordTests : ℕ → ℕ → ℕ → ℕ → ℕ → List Test
+recordTests reciprocals dc ac bitmap divisors =
+    2 unless eqb reciprocals 64 ∷ 3 unless eqb dc 1 ∷ 3 unless eqb ac 64 ∷ 3 unless eqb bitmap 1 ∷ 3 unless eqb divisors 64 ∷ []
+
+-- two records handed over, by the lengths: 1, AC places not of 64, of either; 2, divisors not of 64, of either
+abbrev pub handedTests : List ℤ → List ℕ → List ℤ → List ℕ → List Test
+handedTests ac divisors ac′ divisors′ = 1 unless ac of 64 ∷ 1 unless ac′ of 64 ∷ 2 unless divisors of 64 ∷ 2 unless divisors′ of 64 ∷ []
+
+-- the record of the parts handed over: the bitmap is not asked for, since sameness does not look at it
+unfoldable pub handedRecord : ℤ → List ℤ → List ℕ → QuantizedBlock
+handedRecord dc ac divisors = record { dc = dc; «ac_coefficients» = ac; «nonzero_ac» = 0; divisors = divisors }
 
 -- the divisors by value; 64 zeros for such as are not 64, which the call refuses
 unfoldable pub handed : List Float → List Float

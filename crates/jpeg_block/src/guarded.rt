@@ -50,8 +50,15 @@ pub extern "C" fn jpeg_block_quantization_divisors(quant: &[u8], out: &mut [f64]
 }
 
 // The status by the entry's own, and by the lengths of what only this form has.
-fn record_status(number: u32, reciprocals: usize, dc: usize, ac: usize, nonzero_ac: usize) -> u32
-    ensures { λ r. ⌜ r ≡ written number (status (recordTests reciprocals dc ac «nonzero_ac»)) number ⌝ }
+fn record_status(
+    number: u32,
+    reciprocals: usize,
+    dc: usize,
+    ac: usize,
+    nonzero_ac: usize,
+    divisors: usize,
+) -> u32
+    ensures { λ r. ⌜ r ≡ written number (status (recordTests reciprocals dc ac «nonzero_ac» divisors)) number ⌝ }
 {
     if number != 0 {
         return number;
@@ -66,6 +73,9 @@ fn record_status(number: u32, reciprocals: usize, dc: usize, ac: usize, nonzero_
         return 3;
     }
     if nonzero_ac != 1 {
+        return 3;
+    }
+    if divisors != 64 {
         return 3;
     }
     0
@@ -97,8 +107,19 @@ fn put_ac(from: &[i16; 64], to: &mut [i16])
     }
 }
 
+fn put_divisors(from: &[u8; 64], to: &mut [u8])
+    requires { ⌜ length (now to) ≡ 64 ⌝ }
+    ensures { λ _. ⌜ now (to .exit) ≡ tab 64 (λ n. getD (now (from .entry)) n 0) ⌝ }
+{
+    let mut n = 0;
+    while n < 64 {
+        to[n] = from[n];
+        n += 1;
+    }
+}
+
 // `transform::fdct_quantize`: refusals 1, 2 and 5, then 2 for the divisors and 3 for a place. The divisors are used as handed over,
-// whatever they hold.
+// whatever they hold; the record's are those of the table.
 #[no_mangle]
 pub extern "C" fn jpeg_block_fdct_quantize_guarded(
     block: &[u8],
@@ -107,11 +128,13 @@ pub extern "C" fn jpeg_block_fdct_quantize_guarded(
     dc: &mut [i16],
     ac: &mut [i16],
     nonzero_ac: &mut [u64],
+    record_divisors: &mut [u8],
 ) -> u32
-    ensures { λ r. ⌜ r ≡ status (guardedTests (now (block .entry)) (now (quant .entry)) ++ recordTests (length (now (divisors .entry))) (length (now (dc .entry))) (length (now (ac .entry))) (length (now («nonzero_ac» .entry)))) ⌝ }
+    ensures { λ r. ⌜ r ≡ status (guardedTests (now (block .entry)) (now (quant .entry)) ++ recordTests (length (now (divisors .entry))) (length (now (dc .entry))) (length (now (ac .entry))) (length (now («nonzero_ac» .entry))) (length (now («record_divisors» .entry)))) ⌝ }
     ensures { λ r. ⌜ now (dc .exit) ≡ written r (guardedAnswer (now (block .entry)) (now (quant .entry)) (now (divisors .entry)) .block .dc ∷ []) (now (dc .entry)) ⌝ }
     ensures { λ r. ⌜ now (ac .exit) ≡ written r (guardedAnswer (now (block .entry)) (now (quant .entry)) (now (divisors .entry)) .block .«ac_coefficients») (now (ac .entry)) ⌝ }
     ensures { λ r. ⌜ now («nonzero_ac» .exit) ≡ written r (guardedAnswer (now (block .entry)) (now (quant .entry)) (now (divisors .entry)) .block .«nonzero_ac» ∷ []) (now («nonzero_ac» .entry)) ⌝ }
+    ensures { λ r. ⌜ now («record_divisors» .exit) ≡ written r (guardedAnswer (now (block .entry)) (now (quant .entry)) (now (divisors .entry)) .block .divisors) (now («record_divisors» .entry)) ⌝ }
 {
     let answer = fdct_quantize(block, quant, by_value(divisors));
     let status = record_status(
@@ -120,6 +143,7 @@ pub extern "C" fn jpeg_block_fdct_quantize_guarded(
         dc.len(),
         ac.len(),
         nonzero_ac.len(),
+        record_divisors.len(),
     );
     if status != 0 {
         return status;
@@ -127,6 +151,7 @@ pub extern "C" fn jpeg_block_fdct_quantize_guarded(
     let record = answer.block;
     dc[0] = record.dc;
     put_ac(&record.ac_coefficients, ac);
+    put_divisors(&record.divisors, record_divisors);
     nonzero_ac[0] = record.nonzero_ac;
     0
 }

@@ -9,5 +9,6 @@ mod inverse;
 mod inverse_i32;
 mod place;
 mod planes;
+mod records;
 mod stored;
 mod tables;

@@ -1,5 +1,5 @@
 // The guarded quantizer and its divisors: 64 samples, 64 quantizers, and the divisors or the table that they are made from; the record
-// of DC, AC places and bitmap.
+// of DC, AC places and bitmap. The Rust's record has no divisors: those are held to the table.
 use crate::decode::ROOM;
 use crate::decode::block_f64;
 use crate::decode::bytes;
@@ -22,9 +22,21 @@ fn record(status: u32, block: QuantizedBlock) -> Answer {
     }
 }
 
+// The status; 99, which no record has, where a record does not carry the table handed over.
+fn with_table(status: u32, divisors: &[u8; 64], quant: &[u8]) -> u32 {
+    let held: &[u8] = divisors;
+    if check::same(held, quant) {
+        return status;
+    }
+    99
+}
+
 fn quantized(case: &[u8; ROOM], divisors: QuantizationDivisors) -> Answer {
-    let got = transform::fdct_quantize(bytes(case, 0), bytes(case, 64), divisors);
-    record(got.status, got.block)
+    let quant = bytes(case, 64);
+    let got = transform::fdct_quantize(bytes(case, 0), quant, divisors);
+    let block = got.block;
+    let table = block.divisors;
+    record(with_table(got.status, &table, quant), block)
 }
 
 pub fn quantization_divisors(case: &[u8; ROOM]) -> Answer {

@@ -7,6 +7,7 @@ ghost use lib.IntN.{pos, natAbs, _-ℤ_, _*ℤ_};
 ghost use Rattle.quantize.specs.Quantize.{coefficient};
 ghost use Rattle.guarded_quantizer.specs.Record.{recordOf};
 ghost use Rattle.guarded_quantizer.specs.Constant.{constant, onlyDc};
+use crate::record::table_of;
 use guarded_quantizer::QuantizedBlock;
 use quantize::quantize;
 
@@ -38,11 +39,14 @@ pub fn constant_record(block: &[u8], quant: &[u8]) -> QuantizedBlock
     requires { ⌜ length (now block) ≡ 64 ⌝ }
     requires { ⌜ constant (now block) ≡ true ⌝ }
     requires { ⌜ length (now quant) ≡ 64 ⌝ }
-    ensures { λ r. ⌜ r ≡ recordOf (onlyDc (now (block .entry)) (now (quant .entry))) ⌝ }
+    ensures { λ r. ⌜ r ≡ recordOf (now (quant .entry)) (onlyDc (now (block .entry)) (now (quant .entry))) ⌝ }
 {
+    let dc = constant_dc(block[0], quant[0]);
+    let divisors = table_of(quant);
     QuantizedBlock {
-        dc: constant_dc(block[0], quant[0]),
+        dc,
         ac_coefficients: [0i16; 64],
         nonzero_ac: 0,
+        divisors,
     }
 }

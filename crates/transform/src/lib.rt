@@ -1,11 +1,13 @@
 // The guarded quantizer (transform.rs, `fdct_quantize` without its vector code; document 01, "The guarded quantizer").
 //
 // After the refusals a block of equal samples goes its own way (`constant`); of any other, the guarded coefficients (`guarded`: the
-// values of crate fdct_f64 times the reciprocals, rounded from their bits, `binary64`) are laid out as one record (`record`).
+// values of crate fdct_f64 times the reciprocals, rounded from their bits, `binary64`) are laid out as one record (`record`), with the
+// table's divisors. Two records are compared in `same`.
 mod binary64;
 mod constant;
 mod guarded;
 mod record;
+pub mod same;
 
 ghost use mathlib.Core.Path.{_≡_};
 ghost use Rattle.guarded_quantizer.specs.Answer.{quantized, zeroRecord, guardedAnswer};
@@ -27,11 +29,12 @@ fn refused(status: u32) -> Quantized
             dc: 0,
             ac_coefficients: [0i16; 64],
             nonzero_ac: 0,
+            divisors: [0u8; 64],
         },
     }
 }
 
-// The divisors are used as handed over, whatever they hold.
+// The divisors are used as handed over, whatever they hold; the record carries those of `quant`.
 pub fn fdct_quantize(block: &[u8], quant: &[u8], divisors: QuantizationDivisors) -> Quantized
     ensures { λ r. ⌜ r ≡ guardedAnswer (now (block .entry)) (now (quant .entry)) (divisors .reciprocals) ⌝ }
 {
@@ -54,6 +57,6 @@ pub fn fdct_quantize(block: &[u8], quant: &[u8], divisors: QuantizationDivisors)
     let coefficients = guarded_coefficients(block, quant, &reciprocals);
     Quantized {
         status: 0,
-        block: from_natural_order(&coefficients),
+        block: from_natural_order(&coefficients, quant),
     }
 }

@@ -1,7 +1,8 @@
-// The record of a quantized block, made from its coefficients (transform.rs, `QuantizedBlock`; document 01, "The guarded quantizer").
+// The record of a quantized block, made from its coefficients (transform.rs, `QuantizedBlock`; document 01, "The guarded quantizer"; its
+// divisors by document 02, card 9).
 ghost use mathlib.Core.Path.{_≡_};
 ghost use Prim.Native.Nat.{_≤_, _<_, _-_};
-ghost use lib.ListN.{getD};
+ghost use lib.ListN.{length, getD};
 ghost use lib.IntN.{pos};
 ghost use Rattle.guarded_quantizer.specs.Bitmap.{withBit, nonzero};
 ghost use Rattle.guarded_quantizer.specs.Record.{recordOf};
@@ -28,10 +29,25 @@ fn update_nonzero_ac(bitmap: u64, zigzag: usize, coefficient: i16) -> u64
     (bitmap & !(1u64 << place)) | (nonzero_bit(coefficient) << place)
 }
 
-// The record of coefficients in natural order. In a loop of its own the bitmap stays in a register, and no branch waits for a
-// coefficient.
-pub fn from_natural_order(coefficients: &[i16; 64]) -> QuantizedBlock
-    ensures { λ r. ⌜ r ≡ recordOf (λ n. getD (now (coefficients .entry)) n (pos 0)) ⌝ }
+// The quantizer table by value.
+pub fn table_of(quant: &[u8]) -> [u8; 64]
+    requires { ⌜ length (now quant) ≡ 64 ⌝ }
+    ensures { λ r. ⌜ r ≡ now (quant .entry) ⌝ }
+{
+    let mut table = [0u8; 64];
+    let mut n = 0;
+    while n < 64 {
+        table[n] = quant[n];
+        n += 1;
+    }
+    table
+}
+
+// The record of coefficients in natural order, quantized under `quant`. In a loop of its own the bitmap stays in a register, and no branch
+// waits for a coefficient.
+pub fn from_natural_order(coefficients: &[i16; 64], quant: &[u8]) -> QuantizedBlock
+    requires { ⌜ length (now quant) ≡ 64 ⌝ }
+    ensures { λ r. ⌜ r ≡ recordOf (now (quant .entry)) (λ n. getD (now (coefficients .entry)) n (pos 0)) ⌝ }
 {
     let order = zigzag();
     let dc = coefficients[0];
@@ -49,5 +65,6 @@ pub fn from_natural_order(coefficients: &[i16; 64]) -> QuantizedBlock
         dc,
         ac_coefficients,
         nonzero_ac,
+        divisors: table_of(quant),
     }
 }

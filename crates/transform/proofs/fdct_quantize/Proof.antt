@@ -45,7 +45,7 @@ returns-5 c =
     let t = zero .before in
     guarded-answer _ _ _
     (accepted _ _ _ (has (t .before .if1 .left) then has (t .if2 .left) then ap not (sym (zero .has-zero .ensures) ∙ equal .before .if3 .left) then tt)
-    (record-tab _ (made .guarded-coefficients .ensures) (c .from-natural-order .ensures) ∙ by-constant _ _ _ {t = false} (sym (other .if4 .left) ∙ equal .all-equal .ensures)))
+    (record-tab _ _ (made .guarded-coefficients .ensures) (c .from-natural-order .ensures) ∙ by-constant _ _ _ {t = false} (sym (other .if4 .left) ∙ equal .all-equal .ensures)))
 
 pub fdct-quantize-spec : {M : Type 1} → statement M
 fdct-quantize-spec =

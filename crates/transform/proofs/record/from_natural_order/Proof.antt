@@ -25,11 +25,11 @@ abbrev natural : List ℤ → ℕ → ℤ
 natural l n = getD l n (pos 0)
 
 abbrev Inv-loop : tie.InvT-loop
-Inv-loop coefficients order dc ac₀ nonzero₀ z₀ ac nonzero z =
+Inv-loop coefficients quant order dc ac₀ nonzero₀ z₀ ac nonzero z =
     (1 ≤ z) × (z ≤ 64) × Filled (acAt (natural coefficients)) 64 z ac × (nonzero ≡ upTo (bitAt (acPlaces (natural coefficients))) z)
 
 abbrev μ-loop : tie.MeasureT-loop
-μ-loop coefficients order dc ac₀ nonzero₀ z₀ ac nonzero z = 64 - z
+μ-loop coefficients quant order dc ac₀ nonzero₀ z₀ ac nonzero z = 64 - z
 
 loop-holds : tie.Need-loop-holds Inv-loop μ-loop
 unfolding tab total
@@ -44,7 +44,7 @@ loop-again c =
     let turn = c .before .before .before in
     let l = turn .loop in
     let order = turn .before .before in
-    let cs = order .before .args .coefficients .now in
+    let cs = order .before .before .args .coefficients .now in
     let n = getD (order .zigzag .result) (l .z) 0 in
     let back = toZ-ofZ w16 (natural cs n) (record { sfits = c .before .coefficient .given }) in
     let stored = back ∙ ap (λ (t : List ℕ). natural cs (getD t (l .z) 0)) (order .zigzag .ensures) in
@@ -55,13 +55,13 @@ loop-again c =
 returns : tie.Need-returns Inv-loop μ-loop
 unfolding bitmapOf acPlaces
 returns c =
-    let l = c .before .loop in
-    let read = c .before .before in
-    let cs = read .before .before .args .coefficients .now in
+    let l = c .before .before .loop in
+    let read = c .before .before .before in
+    let cs = read .before .before .before .args .coefficients .now in
     let dc = toZ-ofZ w16 (natural cs 0) (record { sfits = read .dc .given }) in
     let ac = all _ 64 _ _ (l .inv .2) (omega arith) (omega arith) in
     let e : l .z ≡ 64 = omega arith in
-    whole (natural cs) dc ac (l .inv .3 ∙ ap (upTo (bitAt (acPlaces (natural cs)))) e ∙ ap bitmapOf (sym ac))
+    whole _ (natural cs) dc ac (l .inv .3 ∙ ap (upTo (bitAt (acPlaces (natural cs)))) e ∙ ap bitmapOf (sym ac)) (c .table-of .ensures)
 
 pub from-natural-order-spec : {M : Type 1} → statement M
 from-natural-order-spec =
@@ -82,4 +82,5 @@ from-natural-order-spec =
     (λ c. omega arith)
     (λ c. omega arith)
     loop-again
+    (λ c κs. search needs)
     returns)
