@@ -446,6 +446,46 @@ static void percents(void)
     WROTE(name, 64);
 }
 
+/* Three benches: two blocks at bench 0 and one at bench 2, in turns of two and of as many as there are. */
+static void queued(void)
+{
+    static const char name[] = "jpeg_block_bench_queue_turn";
+    static const char deposit[] = "jpeg_block_bench_queue_deposit";
+    static const char report[] = "jpeg_block_bench_queue_report";
+    static const uint32_t fresh[10] = {3, 2};
+    uint32_t state[11] = {0}, answer[3] = {9, 9, 9}, counts[9] = {7, 7, 7, 7, 7, 7, 7, 7, 7}, other[10];
+    static uint8_t out[4097];
+    int i;
+    memset(out, 9, sizeof out);
+    expect(jpeg_block_bench_queue_new(0, state, 10) == 13, "jpeg_block_bench_queue_new", "0 benches");
+    expect(jpeg_block_bench_queue_new(9, state, 9) == 13, "jpeg_block_bench_queue_new", "9 benches");
+    expect(jpeg_block_bench_queue_new(3, state, 11) == 3, "jpeg_block_bench_queue_new", "a place of 11 numbers");
+    for (i = 0; i < 11; i++) {
+        expect(state[i] == 0, "jpeg_block_bench_queue_new", "wrote where it refused");
+    }
+    expect(jpeg_block_bench_queue_turn(state, 10, 1, out, 4095, answer, 1) == 13, name, "the zero record");
+    expect(jpeg_block_bench_queue_new(3, state, 10) == 0, "jpeg_block_bench_queue_new", "is refused");
+    expect(memcmp(state, fresh, sizeof fresh) == 0, "jpeg_block_bench_queue_new", "a new state");
+    expect(jpeg_block_bench_queue_deposit(state, 10, 0, 2) == 0, deposit, "is refused");
+    expect(jpeg_block_bench_queue_deposit(state, 10, 2, 1) == 0, deposit, "is refused");
+    memcpy(other, state, sizeof other);
+    expect(jpeg_block_bench_queue_deposit(state, 9, 0, 1) == 13, deposit, "a state of nine numbers");
+    expect(jpeg_block_bench_queue_deposit(state, 10, 3, 65536) == 13, deposit, "bench 3 of three");
+    expect(jpeg_block_bench_queue_deposit(state, 10, 0, 65534) == 14, deposit, "65536 blocks");
+    expect(jpeg_block_bench_queue_turn(state, 10, 2, out, 4097, answer, 2) == 3, name, "4097 places");
+    expect(jpeg_block_bench_queue_turn(state, 10, 2, out, 4096, answer, 3) == 3, name, "an answer of three");
+    expect(memcmp(state, other, sizeof other) == 0 && out[0] == 9 && answer[0] == 9, name, "wrote where it refused");
+    expect(jpeg_block_bench_queue_turn(state, 10, 2, out, 4096, answer, 2) == 0, name, "is refused");
+    expect(answer[0] == 2 && answer[1] == 1 && out[0] == 0 && out[1] == 2 && out[2] == 9, name, "a turn of two");
+    expect(jpeg_block_bench_queue_report(state, 10, counts, 7) == 3, report, "seven counts");
+    expect(jpeg_block_bench_queue_report(state, 11, counts, 8) == 13, report, "a state of 11 numbers");
+    expect(counts[0] == 7, report, "wrote where it refused");
+    expect(jpeg_block_bench_queue_report(state, 10, counts, 8) == 0, report, "is refused");
+    expect(counts[0] == 1 && counts[2] == 0 && counts[7] == 0 && counts[8] == 7, report, "the counts");
+    expect(jpeg_block_bench_queue_turn(state, 10, UINT32_MAX, out, 4096, answer, 2) == 0, name, "is refused");
+    expect(answer[0] == 1 && answer[1] == 2 && answer[2] == 9 && out[0] == 0 && out[1] == 2 && out[4096] == 9, name, "the last block");
+}
+
 int main(void)
 {
     inverse_blocks();
@@ -460,6 +500,7 @@ int main(void)
     same_blocks();
     same_recorded();
     percents();
+    queued();
     if (failures == 0) {
         printf("every call is as expected\n");
     }

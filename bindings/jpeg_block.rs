@@ -190,6 +190,28 @@ pub mod raw {
             out: *mut u8,
             out_len: usize,
         ) -> u32;
+        pub fn jpeg_block_bench_queue_new(benches: u32, state: *mut u32, state_len: usize) -> u32;
+        pub fn jpeg_block_bench_queue_deposit(
+            state: *mut u32,
+            state_len: usize,
+            bench: u32,
+            blocks: u32,
+        ) -> u32;
+        pub fn jpeg_block_bench_queue_turn(
+            state: *mut u32,
+            state_len: usize,
+            l: u32,
+            out: *mut u8,
+            out_len: usize,
+            answer: *mut u32,
+            answer_len: usize,
+        ) -> u32;
+        pub fn jpeg_block_bench_queue_report(
+            state: *const u32,
+            state_len: usize,
+            counts: *mut u32,
+            counts_len: usize,
+        ) -> u32;
     }
 }
 
@@ -524,4 +546,96 @@ pub fn percent_table(base: &[u8], percent: u32, out: &mut [u8]) -> Result<(), u3
         )
     };
     answer(status, ())
+}
+
+/// The queue of one to eight benches before one coder: ten numbers, the bench
+/// count, the bench last served and eight counts of waiting blocks. A state out
+/// of range, made by hand, is refused by 13 from every call.
+#[derive(Clone, Copy, Debug, PartialEq)]
+pub struct BenchQueue(pub [u32; 10]);
+
+/// What an accepted turn says.
+#[derive(Clone, Copy, Debug, PartialEq)]
+pub enum Word {
+    /// So many blocks were coded as were asked for, and somebody waits.
+    Spent,
+    /// Nobody waits.
+    Idle,
+}
+
+/// What a turn gives: the new state, the number of blocks listed, the word.
+#[derive(Clone, Copy, Debug, PartialEq)]
+pub struct Turned {
+    pub state: BenchQueue,
+    pub listed: usize,
+    pub word: Word,
+}
+
+impl BenchQueue {
+    /// Nobody waits, and bench 0 is served first. Refusal: 13, a bench count
+    /// outside 1 to 8.
+    pub fn new(benches: u32) -> Result<BenchQueue, u32> {
+        let mut state = [0; 10];
+        // SAFETY: it is an array of this function's own.
+        let status =
+            unsafe { raw::jpeg_block_bench_queue_new(benches, state.as_mut_ptr(), state.len()) };
+        answer(status, BenchQueue(state))
+    }
+
+    /// So many more blocks wait at the bench. Refusals: 13, a bench number not
+    /// below the bench count; 14, a waiting count above 65535.
+    pub fn deposit(self, bench: u32, blocks: u32) -> Result<BenchQueue, u32> {
+        let mut state = self.0;
+        // SAFETY: it is an array of this function's own.
+        let status = unsafe {
+            raw::jpeg_block_bench_queue_deposit(state.as_mut_ptr(), state.len(), bench, blocks)
+        };
+        answer(status, BenchQueue(state))
+    }
+
+    /// Lists the bench of each of up to `l` coded blocks, at most 4096, from the
+    /// first place of `out` on, and writes no other place. Refusals: 13; 3, an
+    /// output not of 4096 places.
+    pub fn turn(self, l: u32, out: &mut [u8]) -> Result<Turned, u32> {
+        let (mut state, mut told) = (self.0, [0; 2]);
+        // SAFETY: all are slices, and an exclusive one overlaps no other.
+        let status = unsafe {
+            raw::jpeg_block_bench_queue_turn(
+                state.as_mut_ptr(),
+                state.len(),
+                l,
+                out.as_mut_ptr(),
+                out.len(),
+                told.as_mut_ptr(),
+                told.len(),
+            )
+        };
+        answer(
+            status,
+            Turned {
+                state: BenchQueue(state),
+                listed: told[0] as usize,
+                word: if told[1] == 2 {
+                    Word::Idle
+                } else {
+                    Word::Spent
+                },
+            },
+        )
+    }
+
+    /// Every bench's waiting count. Refusal: 13.
+    pub fn report(self) -> Result<[u32; 8], u32> {
+        let mut counts = [0; 8];
+        // SAFETY: both are arrays, and the counts this function's own.
+        let status = unsafe {
+            raw::jpeg_block_bench_queue_report(
+                self.0.as_ptr(),
+                self.0.len(),
+                counts.as_mut_ptr(),
+                counts.len(),
+            )
+        };
+        answer(status, counts)
+    }
 }

@@ -14,6 +14,8 @@
  *   8  a width or height of 0 or above 4096
  *   9  samples that are not width times height
  *  11  a percent outside 1 to 200
+ *  13  a bench count outside 1 to 8, a bench number not below it, a queue state out of range
+ *  14  a waiting count above 65535
  *
  * Quantizers are of 8 bits: a table of T.81 with 16-bit entries is not taken.
  *
@@ -120,6 +122,26 @@ uint32_t jpeg_block_islow_plane_2x2(const int16_t *coefficients, size_t coeffici
 /* A table by percent, 1 to 200: each quantizer of the base table times the percent, plus 50, divided by 100 and rounded down, then held to
  * 1..255; out_len 64. A larger percent makes no divisor smaller and no zero coefficient nonzero. Refusals 2, 3, 11. */
 uint32_t jpeg_block_percent_table(const uint8_t *base, size_t base_len, uint32_t percent, uint8_t *out, size_t out_len);
+
+/* The queue of one to eight benches before one coder. A state is ten numbers: the bench count, the bench last served, and eight counts of
+ * waiting blocks, 0 to 65535 and 0 past the last bench; state_len 10. A state that holds anything else, or is not of ten numbers, is refused
+ * by 13 before any other test. A call that is not refused leaves the new state in its place. */
+
+/* A new state of so many benches, with nobody waiting, that serves bench 0 first. Refusals 13 for a bench count outside 1 to 8, 3. */
+uint32_t jpeg_block_bench_queue_new(uint32_t benches, uint32_t *state, size_t state_len);
+
+/* So many more blocks wait at the bench; 0 is allowed. Refusals 13, also for a bench not below the bench count; 14 for a waiting count that
+ * would exceed 65535. */
+uint32_t jpeg_block_bench_queue_deposit(uint32_t *state, size_t state_len, uint32_t bench, uint32_t blocks);
+
+/* Lists in out, from out[0] on, the bench of each of up to l coded blocks, one at a time, each the next waiting bench in cyclic order after
+ * the one last served; l above 4096 acts as 4096; out_len 4096, of which no other place is written. Into answer[0] the number of blocks
+ * listed; into answer[1] 2 ("idle") when nobody waits afterwards, else 1 ("spent", exactly l blocks were listed); answer_len 2.
+ * Refusals 13, 3 for either output. */
+uint32_t jpeg_block_bench_queue_turn(uint32_t *state, size_t state_len, uint32_t l, uint8_t *out, size_t out_len, uint32_t *answer, size_t answer_len);
+
+/* Every bench's waiting count, eight of them, into counts; counts_len 8. Refusals 13, 3. */
+uint32_t jpeg_block_bench_queue_report(const uint32_t *state, size_t state_len, uint32_t *counts, size_t counts_len);
 
 #ifdef __cplusplus
 }

@@ -1,6 +1,6 @@
 //! Times every function of libjpeg_block.a beside the published Rust's, on the
-//! same inputs, in turn. The Rust has no dequantizing, screen, sameness or table
-//! by percent; the plain loops below stand in its place. A plane's time is that
+//! same inputs, in turn. The Rust has no dequantizing, screen, sameness, table
+//! by percent or queue; the plain loops below stand in its place. A plane's time is that
 //! of one block, beside the Rust's in a loop, and beside our own block entry's.
 //!
 //! No arguments: a line for each function and kind of block, `NAME KIND RUST_NS
@@ -19,7 +19,7 @@ mod planes;
 
 use j2k_codec_math::jpeg::{fdct, idct};
 use j2k_encoder::{Divisors, Quantized};
-use jpeg_block::QuantizedBlock;
+use jpeg_block::{BenchQueue, QuantizedBlock};
 use numbers::{Random, SEED};
 use planes::{any_plane, blocks, cut, Plane};
 use std::hint::black_box;
@@ -159,6 +159,16 @@ rust! {
     rust_percent_table(input: &([u8; 64], u32), output: &mut [u8; 64]) {
         for n in 0..64 {
             output[n] = ((u32::from(input.0[n]) * input.1 + 50) / 100).clamp(1, 255) as u8;
+        }
+    }
+    rust_bench_queue_turn(input: &[u32; 10], output: &mut [u8; 4096]) {
+        let (benches, mut last, mut waiting) = (input[0], input[1], *input);
+        for place in output {
+            let next = (1..=benches).map(|k| (last + k) % benches).find(|b| waiting[2 + *b as usize] > 0);
+            let Some(b) = next else { break };
+            *place = b as u8;
+            waiting[2 + b as usize] -= 1;
+            last = b;
         }
     }
 }
@@ -641,6 +651,23 @@ fn main() {
         rust_percent_table,
         |(base, percent), output| {
             black_box(jpeg_block::percent_table(base, *percent, output)).expect("no refusal");
+        },
+    );
+    // Eight benches with many blocks each.
+    mode.run(
+        "bench_queue_turn",
+        "4096",
+        &many(|r| {
+            core::array::from_fn(|i| match i {
+                0 => 8,
+                1 => r.below(8) as u32,
+                _ => 1000 + r.below(60_000) as u32,
+            })
+        }),
+        [0; 4096],
+        rust_bench_queue_turn,
+        |state: &[u32; 10], output| {
+            black_box(BenchQueue(*state).turn(4096, output)).expect("no refusal");
         },
     );
     if let Mode::Kinds(kinds) = mode {

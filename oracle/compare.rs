@@ -1,6 +1,6 @@
 //! Compares every function of libjpeg_block.a with the published Rust, and
-//! those that it does not have with stored.rs, records.rs and percents.rs, on
-//! many inputs.
+//! those that it does not have with stored.rs, records.rs, percents.rs and
+//! queues.rs, on many inputs.
 //!
 //! Arguments: the seconds to spend, and the seed. Each function is first called
 //! with lengths around every one that it takes. Then all are asked for a list of
@@ -26,6 +26,7 @@ mod numbers;
 mod percents;
 #[allow(dead_code)]
 mod planes;
+mod queues;
 mod records;
 #[allow(dead_code)]
 mod stored;
@@ -171,6 +172,9 @@ impl Place for i16 {
 }
 impl Place for i32 {
     const FILL: Self = 0x5aa5_a55a;
+}
+impl Place for u32 {
+    const FILL: Self = 0xa55a_5aa5;
 }
 impl Place for u64 {
     const FILL: Self = 0x5aa5_a55a_a55a_5aa5;
@@ -351,6 +355,157 @@ fn percent_table(base: &[u8], percent: u32, out: &mut [u8]) -> u32 {
             out.len(),
         )
     }
+}
+
+/// A state in a lent place of `len` numbers: the first ten, or as many as there
+/// are.
+fn lent_state(state: &queues::State, len: usize) -> Lent<u32> {
+    let mut lent = Lent::new(len);
+    for (to, from) in lent.places().iter_mut().zip(state) {
+        *to = *from;
+    }
+    lent
+}
+
+/// What is left of the three places of a turn, with its status.
+type TurnLeft = (u32, Lent<u32>, Lent<u8>, Lent<u32>);
+
+fn queue_turn(
+    state: &queues::State,
+    l: u32,
+    (len, places, answers): (usize, usize, usize),
+) -> TurnLeft {
+    let (mut held, mut out, mut answer) = (
+        lent_state(state, len),
+        Lent::new(places),
+        Lent::new(answers),
+    );
+    let (s, o, a) = (held.places(), out.places(), answer.places());
+    // SAFETY: all are slices that overlap no other.
+    let status = unsafe {
+        raw::jpeg_block_bench_queue_turn(
+            s.as_mut_ptr(),
+            s.len(),
+            l,
+            o.as_mut_ptr(),
+            o.len(),
+            a.as_mut_ptr(),
+            a.len(),
+        )
+    };
+    (status, held, out, answer)
+}
+
+/// What of a turn is not as queues.rs has it.
+fn turn_difference(state: &queues::State, l: u32) -> Option<String> {
+    let (status, held, out, answer) = queue_turn(state, l, (10, queues::PLACES, 2));
+    let guards = held.guards() && out.guards() && answer.guards();
+    let same = match queues::turn(*state, l) {
+        Err(number) => status == number && held.held() == state && out.kept() && answer.kept(),
+        Ok((after, listed, word)) => {
+            let (here, rest) = out.held().split_at(listed.len());
+            status == 0
+                && held.held() == after
+                && here == listed
+                && rest.iter().all(|x| *x == u8::FILL)
+                && answer.held() == [listed.len() as u32, word]
+        }
+    };
+    if same && guards {
+        return None;
+    }
+    Some(format!(
+        "a turn of {l} on {state:?}: status {status}, state {:?}, answer {:?}",
+        held.held(),
+        answer.held()
+    ))
+}
+
+fn queue_deposit(state: &mut [u32], bench: u32, blocks: u32) -> u32 {
+    // SAFETY: it is a slice.
+    unsafe { raw::jpeg_block_bench_queue_deposit(state.as_mut_ptr(), state.len(), bench, blocks) }
+}
+
+fn deposit_difference(state: &queues::State, bench: u32, blocks: u32) -> Option<String> {
+    let mut held = lent_state(state, 10);
+    let status = queue_deposit(held.places(), bench, blocks);
+    let same = match queues::deposit(*state, bench, blocks) {
+        Err(number) => status == number && held.held() == state,
+        Ok(after) => status == 0 && held.held() == after,
+    };
+    if same && held.guards() {
+        return None;
+    }
+    Some(format!(
+        "a deposit of {blocks} at {bench} on {state:?}: status {status}, state {:?}",
+        held.held()
+    ))
+}
+
+fn queue_report(state: &[u32], counts: &mut [u32]) -> u32 {
+    // SAFETY: both are slices, and an exclusive one overlaps no other.
+    unsafe {
+        raw::jpeg_block_bench_queue_report(
+            state.as_ptr(),
+            state.len(),
+            counts.as_mut_ptr(),
+            counts.len(),
+        )
+    }
+}
+
+/// A history of calls from a new state on, each on the state that the call
+/// before left: whatever was deposited was listed or waits, and a bench that
+/// waits is listed within as many blocks as there are benches.
+fn history_difference(random: &mut Random) -> Option<String> {
+    let benches = 1 + random.below(8) as usize;
+    let mut state = queues::new(benches as u32).expect("one to eight benches");
+    let (mut deposited, mut listed) = ([0u64; 8], [0u64; 8]);
+    // The blocks listed since bench b was last served or began to wait.
+    let mut passed = [0usize; 8];
+    for _ in 0..40 {
+        if random.below(3) > 0 {
+            let (bench, blocks) = queues::any_deposit(random);
+            if let Some(difference) = deposit_difference(&state, bench, blocks) {
+                return Some(difference);
+            }
+            let mut held = lent_state(&state, 10);
+            if queue_deposit(held.places(), bench, blocks) == 0 {
+                let b = bench as usize;
+                if state[2 + b] == 0 {
+                    passed[b] = 0;
+                }
+                deposited[b] += u64::from(blocks);
+                state = held.held().try_into().expect("ten numbers");
+            }
+        } else {
+            let l = queues::any_limit(random);
+            if let Some(difference) = turn_difference(&state, l) {
+                return Some(difference);
+            }
+            let (_, held, out, answer) = queue_turn(&state, l, (10, queues::PLACES, 2));
+            let mut waiting: queues::State = state;
+            for b in &out.held()[..answer.held()[0] as usize] {
+                let b = usize::from(*b);
+                for (other, count) in passed.iter_mut().enumerate() {
+                    *count += usize::from(waiting[2 + other] > 0);
+                    if *count > benches {
+                        return Some(format!("bench {other} is passed over from {state:?} on"));
+                    }
+                }
+                passed[b] = 0;
+                waiting[2 + b] -= 1;
+                listed[b] += 1;
+            }
+            state = held.held().try_into().expect("ten numbers");
+        }
+        for b in 0..8 {
+            if deposited[b] != listed[b] + u64::from(state[2 + b]) {
+                return Some(format!("bench {b}: {deposited:?}, {listed:?}, {state:?}"));
+            }
+        }
+    }
+    None
 }
 
 /// Percents around the first and the last that is taken, and such that end in
@@ -1056,6 +1211,127 @@ impl Compare {
         );
     }
 
+    /// A function of the bench queue, tried on `count` random inputs a list.
+    fn queue(
+        &mut self,
+        tally: Tally,
+        count: usize,
+        one: impl Fn(&mut Random) -> Option<String> + 'static,
+    ) {
+        let try_list = Box::new(move |seed, tally: &mut Tally| {
+            let mut random = Random(seed);
+            for _ in 0..count {
+                tally.cases += 1;
+                if let Some(difference) = one(&mut random) {
+                    if tally.differences == 0 {
+                        println!("{}: {difference}", tally.name);
+                    }
+                    tally.differences += 1;
+                }
+            }
+        });
+        self.functions.push(Function { tally, try_list });
+    }
+
+    /// Not in the published Rust: queues.rs works these out in its own way.
+    fn queues(&mut self) {
+        let mut made = Tally::new("bench_queue_new");
+        for benches in (0..12).chain([1 << 8, (1 << 16) + 1, u32::MAX]) {
+            for len in [0, 9, 10, 11] {
+                let number = match queues::new(benches) {
+                    Err(number) => number,
+                    Ok(_) if len != 10 => 3,
+                    Ok(_) => 0,
+                };
+                made.length(number, len, (benches, len), |to: &mut [u32]| {
+                    // SAFETY: it is a slice.
+                    unsafe { raw::jpeg_block_bench_queue_new(benches, to.as_mut_ptr(), to.len()) }
+                });
+            }
+        }
+        self.queue(made, 100, |random| {
+            let benches = 1 + random.below(8) as u32;
+            let mut state = Lent::<u32>::new(10);
+            let to = state.places();
+            // SAFETY: it is a slice.
+            let status =
+                unsafe { raw::jpeg_block_bench_queue_new(benches, to.as_mut_ptr(), to.len()) };
+            let same = status == 0
+                && state.guards()
+                && Ok(state.held()) == queues::new(benches).as_ref().map(|s| &s[..]);
+            (!same).then(|| format!("{benches} benches: status {status}, {:?}", state.held()))
+        });
+        // A state of the wrong length is one out of range; the order of the
+        // tests where several fail.
+        let good = [2, 0, 3, 4, 0, 0, 0, 0, 0, 0, 0];
+        let first = good[..10].try_into().expect("ten numbers");
+        let mut deposits = Tally::new("bench_queue_deposit");
+        let mut turns = Tally::new("bench_queue_turn");
+        let mut reports = Tally::new("bench_queue_report");
+        for len in [0, 9, 10, 11] {
+            for (bench, blocks, number) in [(0, 1, 0), (2, 65536, 13), (1, 65532, 14)] {
+                let number = if len == 10 { number } else { 13 };
+                let mut held = lent_state(&first, len);
+                let status = queue_deposit(held.places(), bench, blocks);
+                deposits.cases += 1;
+                let kept = status == 0 || held.held() == &good[..len.min(10)] || len > 10;
+                if status != number || !kept || !held.guards() {
+                    println!("bench_queue_deposit: length {len}: {status} for {number}");
+                    deposits.differences += 1;
+                }
+            }
+            for places in [0, 4095, 4096, 4097] {
+                for answers in [0, 1, 2, 3] {
+                    let number = match (len, places, answers) {
+                        (10, 4096, 2) => 0,
+                        (10, _, _) => 3,
+                        _ => 13,
+                    };
+                    let (status, held, out, answer) = queue_turn(&first, 5, (len, places, answers));
+                    turns.cases += 1;
+                    let kept = number == 0 || out.kept() && answer.kept();
+                    if status != number || !kept || !held.guards() {
+                        println!("bench_queue_turn: lengths {len} {places} {answers}: {status} for {number}");
+                        turns.differences += 1;
+                    }
+                }
+            }
+            for counts in [0, 7, 8, 9] {
+                let number = match (len, counts) {
+                    (10, 8) => 0,
+                    (10, _) => 3,
+                    _ => 13,
+                };
+                reports.length(number, counts, (len, counts), |to: &mut [u32]| {
+                    queue_report(&good[..len], to)
+                });
+            }
+        }
+        self.queue(deposits, 1_000, |random| {
+            let state = queues::any_state(random);
+            let (bench, blocks) = queues::any_deposit(random);
+            deposit_difference(&state, bench, blocks)
+        });
+        self.queue(turns, 200, |random| {
+            if random.below(10) == 0 {
+                return history_difference(random);
+            }
+            let state = queues::any_state(random);
+            turn_difference(&state, queues::any_limit(random))
+        });
+        self.queue(reports, 1_000, |random| {
+            let state = queues::any_state(random);
+            let mut counts = Lent::<u32>::new(8);
+            let status = queue_report(&state, counts.places());
+            let same = if queues::in_range(&state) {
+                status == 0 && counts.held() == &state[2..] && counts.guards()
+            } else {
+                status == 13 && counts.kept()
+            };
+            (!same).then(|| format!("{state:?}: status {status}, {:?}", counts.held()))
+        });
+    }
+
     /// Not in the published Rust: percents.rs computes these in its own way.
     /// Every percent with every quantizer first, then random tables.
     fn percents(&mut self) {
@@ -1143,6 +1419,7 @@ fn main() {
     compare.stored();
     compare.records();
     compare.percents();
+    compare.queues();
     for list in 0.. {
         for function in &mut compare.functions {
             (function.try_list)(seed.wrapping_add(list), &mut function.tally);

@@ -9,6 +9,7 @@ mod inverse;
 mod inverse_i32;
 mod place;
 mod planes;
+mod queue;
 mod records;
 mod stored;
 mod tables;
