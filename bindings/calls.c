@@ -486,6 +486,55 @@ static void queued(void)
     expect(answer[0] == 1 && answer[1] == 2 && answer[2] == 9 && out[0] == 0 && out[1] == 2 && out[4096] == 9, name, "the last block");
 }
 
+/* All 12-bit samples and all quantizers equal: DC as given, the rest 0. */
+static void equal_12bit(int sample, int quantizer, int dc)
+{
+    static const char name[] = "jpeg_block_fdct_quantize_12bit";
+    uint16_t block[64], quant[64];
+    int i;
+    OUTPUT(int16_t);
+    for (i = 0; i < 64; i++) {
+        block[i] = (uint16_t)sample;
+        quant[i] = (uint16_t)quantizer;
+    }
+    expect(jpeg_block_fdct_quantize_12bit(block, 64, quant, 64, output, 64) == 0, name, "is refused");
+    for (i = 0; i < 64; i++) {
+        expect(output[i] == (i == 0 ? dc : 0), name, "a coefficient of equal samples");
+    }
+    WROTE(name, 64);
+}
+
+static void forward_12bit(void)
+{
+    static const char name[] = "jpeg_block_fdct_quantize_12bit";
+    uint16_t block[65] = {0};
+    const uint16_t quant[65] = {0};
+    OUTPUT(int16_t);
+    equal_12bit(2048, 1, 0);
+    equal_12bit(0, 1, -16384);
+    equal_12bit(4095, 0, 16376);
+    equal_12bit(2049, 16, 1);
+    equal_12bit(2047, 16, -1);
+    equal_12bit(2049, 17, 0);
+    equal_12bit(4095, 256, 64);
+    equal_12bit(0, 32768, -1);
+    equal_12bit(0, 32769, 0);
+    equal_12bit(4095, 65535, 0);
+    block[63] = 4096;
+    REFUSED(name, jpeg_block_fdct_quantize_12bit(block, 63, quant, 63, output, 63), 1);
+    REFUSED(name, jpeg_block_fdct_quantize_12bit(block, 65, quant, 64, output, 64), 1);
+    REFUSED(name, jpeg_block_fdct_quantize_12bit(NULL, 0, NULL, 0, NULL, 0), 1);
+    REFUSED(name, jpeg_block_fdct_quantize_12bit(block, 64, quant, 63, output, 63), 2);
+    REFUSED(name, jpeg_block_fdct_quantize_12bit(block, 64, quant, 65, output, 64), 2);
+    REFUSED(name, jpeg_block_fdct_quantize_12bit(block, 64, NULL, 0, output, 64), 2);
+    REFUSED(name, jpeg_block_fdct_quantize_12bit(block, 64, quant, 64, output, 63), 3);
+    REFUSED(name, jpeg_block_fdct_quantize_12bit(block, 64, quant, 64, output, 65), 3);
+    REFUSED(name, jpeg_block_fdct_quantize_12bit(block, 64, quant, 64, NULL, 0), 3);
+    REFUSED(name, jpeg_block_fdct_quantize_12bit(block, 64, quant, 64, output, 64), 12);
+    block[63] = 65535;
+    REFUSED(name, jpeg_block_fdct_quantize_12bit(block, 64, quant, 64, output, 64), 12);
+}
+
 int main(void)
 {
     inverse_blocks();
@@ -501,6 +550,7 @@ int main(void)
     same_recorded();
     percents();
     queued();
+    forward_12bit();
     if (failures == 0) {
         printf("every call is as expected\n");
     }

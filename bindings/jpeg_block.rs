@@ -75,6 +75,14 @@ pub mod raw {
             out: *mut i16,
             out_len: usize,
         ) -> u32;
+        pub fn jpeg_block_fdct_quantize_12bit(
+            block: *const u16,
+            block_len: usize,
+            quant: *const u16,
+            quant_len: usize,
+            out: *mut i16,
+            out_len: usize,
+        ) -> u32;
         pub fn jpeg_block_fdct_quantize_coefficient(
             block: *const u8,
             block_len: usize,
@@ -267,6 +275,26 @@ pub fn fdct_quantize(block: &[u8], quant: &[u8], out: &mut [i16]) -> Result<(), 
     // SAFETY: all are slices, and an exclusive one overlaps no other.
     let status = unsafe {
         raw::jpeg_block_fdct_quantize(
+            block.as_ptr(),
+            block.len(),
+            quant.as_ptr(),
+            quant.len(),
+            out.as_mut_ptr(),
+            out.len(),
+        )
+    };
+    answer(status, ())
+}
+
+/// The 64 canonical coefficients of a block of 12-bit samples, 0 to 4095, under
+/// quantizers of 16 bits; each is at most 2^14 in size. Refusals: 1, a block not
+/// of 64 places; 2, a table not of 64; 3, an output not of 64; 12, a sample
+/// above 4095.
+#[inline]
+pub fn fdct_quantize_12bit(block: &[u16], quant: &[u16], out: &mut [i16]) -> Result<(), u32> {
+    // SAFETY: all are slices, and an exclusive one overlaps no other.
+    let status = unsafe {
+        raw::jpeg_block_fdct_quantize_12bit(
             block.as_ptr(),
             block.len(),
             quant.as_ptr(),

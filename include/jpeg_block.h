@@ -14,10 +14,11 @@
  *   8  a width or height of 0 or above 4096
  *   9  samples that are not width times height
  *  11  a percent outside 1 to 200
+ *  12  a 12-bit sample above 4095
  *  13  a bench count outside 1 to 8, a bench number not below it, a queue state out of range
  *  14  a waiting count above 65535
  *
- * Quantizers are of 8 bits: a table of T.81 with 16-bit entries is not taken.
+ * Quantizers are of 8 bits: a table of T.81 with 16-bit entries is taken by jpeg_block_fdct_quantize_12bit alone.
  *
  * The tests run in the order in which each function lists its numbers, and the first that fails is answered. No function keeps a
  * pointer, allocates, or has a state: calls may run in parallel, also over shared inputs.
@@ -45,6 +46,7 @@ extern "C" {
 #define JPEG_BLOCK_REFUSED_SIZE 8
 #define JPEG_BLOCK_REFUSED_SAMPLES 9
 #define JPEG_BLOCK_REFUSED_PERCENT 11
+#define JPEG_BLOCK_REFUSED_SAMPLE 12
 
 /* The inverse transforms (ISLOW) of 64 dequantized coefficients. Refusals 1, 3. */
 
@@ -69,6 +71,10 @@ uint32_t jpeg_block_islow_block_12bit_2x2(const int16_t *input, size_t input_len
 
 /* All 64 coefficients; out_len 64. Refusals 1, 2, 3. */
 uint32_t jpeg_block_fdct_quantize(const uint8_t *block, size_t block_len, const uint8_t *quant, size_t quant_len, int16_t *out, size_t out_len);
+
+/* The same of 64 samples of 12 bits, 0 to 4095, less 2048, under quantizers of 16 bits; a coefficient is at most 2^14 in size; out_len 64.
+ * An 8-bit block with 1920 added to each sample has its 8-bit coefficients. Refusals 1, 2, 3, 12. */
+uint32_t jpeg_block_fdct_quantize_12bit(const uint16_t *block, size_t block_len, const uint16_t *quant, size_t quant_len, int16_t *out, size_t out_len);
 
 /* The coefficient at the index `natural` under one quantizer, into out[0]; out_len 1. Refusals 1, 4, 3. */
 uint32_t jpeg_block_fdct_quantize_coefficient(const uint8_t *block, size_t block_len, uint8_t quantizer, size_t natural, int16_t *out, size_t out_len);

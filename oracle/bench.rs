@@ -1,7 +1,9 @@
 //! Times every function of libjpeg_block.a beside the published Rust's, on the
 //! same inputs, in turn. The Rust has no dequantizing, screen, sameness, table
-//! by percent or queue; the plain loops below stand in its place. A plane's time is that
-//! of one block, beside the Rust's in a loop, and beside our own block entry's.
+//! by percent or queue; the plain loops below stand in its place. It has no
+//! 12-bit forward entry; its 8-bit one stands there, on the block with 1920 less
+//! in each sample, and in a second line our own. A plane's time is that of one
+//! block, beside the Rust's in a loop, and beside our own block entry's.
 //!
 //! No arguments: a line for each function and kind of block, `NAME KIND RUST_NS
 //! OURS_NS RATIO`, the medians over the rounds; with the beginning of a name,
@@ -92,6 +94,9 @@ rust! {
     rust_fdct_quantize(input: &([u8; 64], [u8; 64]), output: &mut [i16; 64]) {
         *output = fdct::fdct_quantize(&input.0, &input.1);
     }
+    rust_fdct_quantize_12bit(input: &Raised, output: &mut [i16; 64]) {
+        *output = fdct::fdct_quantize(&input.block, &input.quant);
+    }
     rust_fdct_quantize_coefficient(input: &([u8; 64], u8, usize), output: &mut i16) {
         *output = fdct::fdct_quantize_coefficient(&input.0, input.1, input.2);
     }
@@ -169,6 +174,25 @@ rust! {
             *place = b as u8;
             waiting[2 + b as usize] -= 1;
             last = b;
+        }
+    }
+}
+
+/// An 8-bit block with its table, and both at 12 bits: 1920 added to each sample.
+struct Raised {
+    block: [u8; 64],
+    quant: [u8; 64],
+    raised: [u16; 64],
+    widened: [u16; 64],
+}
+
+impl Raised {
+    fn new((block, quant): &([u8; 64], [u8; 64])) -> Self {
+        Raised {
+            block: *block,
+            quant: *quant,
+            raised: block.map(|s| u16::from(s) + 1_920),
+            widened: quant.map(u16::from),
         }
     }
 }
@@ -472,6 +496,32 @@ fn main() {
                 black_box(jpeg_block::fdct_quantize(block, quant, output)).expect("no refusal");
             },
         );
+        let raised: Vec<_> = whole.iter().map(Raised::new).collect();
+        let ours = |input: &Raised, output: &mut [i16; 64]| {
+            black_box(jpeg_block::fdct_quantize_12bit(&input.raised, &input.widened, output))
+                .expect("no refusal");
+        };
+        mode.run(
+            "fdct_quantize_12bit",
+            kind,
+            &raised,
+            [0; 64],
+            rust_fdct_quantize_12bit,
+            ours,
+        );
+        if let Mode::Time(_) = mode {
+            mode.run(
+                "fdct_quantize_12bit/fdct_quantize",
+                kind,
+                &raised,
+                [0; 64],
+                |input, output| {
+                    black_box(jpeg_block::fdct_quantize(&input.block, &input.quant, output))
+                        .expect("no refusal");
+                },
+                ours,
+            );
+        }
         let single: Vec<_> = (0..BLOCKS)
             .map(|n| (blocks[n], 1 + 3 * n as u8, n))
             .collect();

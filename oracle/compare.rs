@@ -1,6 +1,6 @@
 //! Compares every function of libjpeg_block.a with the published Rust, and
-//! those that it does not have with stored.rs, records.rs, percents.rs and
-//! queues.rs, on many inputs.
+//! those that it does not have with stored.rs, records.rs, percents.rs,
+//! queues.rs and twelve_bit.rs, on many inputs.
 //!
 //! Arguments: the seconds to spend, and the seed. Each function is first called
 //! with lengths around every one that it takes. Then all are asked for a list of
@@ -30,6 +30,7 @@ mod queues;
 mod records;
 #[allow(dead_code)]
 mod stored;
+mod twelve_bit;
 
 use blocks::{blocks_from, Clamp, CLAMP_12BIT, CLAMP_8BIT};
 use forward::{any_table, single_coefficients_from, whole_blocks_from, Single, Table, Whole};
@@ -76,7 +77,7 @@ macro_rules! row_of_number {
         }
     )*};
 }
-row_of_number!(u8 i16 i32);
+row_of_number!(u8 u16 i16 i32);
 
 /// By its bits.
 impl Row for f64 {
@@ -1376,6 +1377,62 @@ impl Compare {
             },
         );
     }
+
+    /// Not in the published Rust: twelve_bit.rs computes these in its own way.
+    /// An 8-bit block with 1920 added to each sample is held to the Rust's 8-bit
+    /// entry.
+    fn twelve_bit(&mut self) {
+        let f = raw::jpeg_block_fdct_quantize_12bit;
+        let mut tally = Tally::new("fdct_quantize_12bit");
+        for a in LENGTHS {
+            for b in LENGTHS {
+                for out in LENGTHS {
+                    for sample in [4_095, 4_096, 65_535] {
+                        let number = if a != 64 {
+                            1
+                        } else if b != 64 {
+                            2
+                        } else if out != 64 {
+                            3
+                        } else if sample > 4_095 {
+                            12
+                        } else {
+                            0
+                        };
+                        let (mut block, quant) = (vec![2_000; a], vec![3; b]);
+                        if let Some(last) = block.last_mut() {
+                            *last = sample;
+                        }
+                        tally.length(number, out, (a, b, out, sample), |to: &mut [i16]| {
+                            call2(f, &block, &quant, to)
+                        });
+                    }
+                }
+            }
+        }
+        self.inputs(
+            tally,
+            |seed| twelve_bit::blocks_from(seed, LIST),
+            move |(block, quant): &twelve_bit::Whole| guarded(|to| call2(f, block, quant, to)),
+            |input| match twelve_bit::coefficients(input) {
+                Ok(coefficients) => written(coefficients),
+                Err(status) => Left {
+                    status,
+                    output: [i16::FILL; 64],
+                    guards: true,
+                },
+            },
+        );
+        self.inputs(
+            Tally::new("fdct_quantize_12bit/raised"),
+            |seed| whole_blocks_from(seed, LIST),
+            move |(block, quant): &Whole| {
+                let (raised, widened) = (twelve_bit::raised(block), twelve_bit::widened(quant));
+                guarded(|to| call2(f, &raised, &widened, to))
+            },
+            |(block, quant)| written(fdct::fdct_quantize(block, quant)),
+        );
+    }
 }
 
 /// The first sample of a decoded plane that is not as expected, with its block.
@@ -1420,6 +1477,7 @@ fn main() {
     compare.records();
     compare.percents();
     compare.queues();
+    compare.twelve_bit();
     for list in 0.. {
         for function in &mut compare.functions {
             (function.try_list)(seed.wrapping_add(list), &mut function.tally);

@@ -7,14 +7,12 @@ use native.Mathlib.Omega.{arith}
 use lib.ListN.{getD}
 use lib.IntN.{ℤ, pos, natAbs, _-ℤ_, _*ℤ_, *ℤ-comm}
 use mir.Syntax.{w16}
-use Rattle.integers.proofs.Difference.{by-dif, differences, distance}
+use Rattle.integers.proofs.Difference.{by-dif, differences}
 use Rattle.integers.proofs.Bound.{small-fits}
-use Rattle.lists.specs.Tab.{tab}
 use Rattle.lists.proofs.Tab.{getD-tab, getD-every}
 use Rattle.quantize.specs.Quantize.{divisorOf, coefficient}
-use Rattle.forward.specs.Forward.{centred, centredBlock, scaledSum}
-use Rattle.forward.proofs.Folding.{sum-centred}
-use Rattle.forward.proofs.Scaled.{scaled-size}
+use Rattle.forward.specs.Forward.{centred, scaledSum}
+use Rattle.forward.proofs.Samples.{sum-small}
 use Rattle.block.specs.Bound.{AtMost}
 use Rattle.stored_blocks.specs.Dequantize.{product, dequantized}
 use Rattle.orthogonality.proofs.Rounding.{coefficient-nearest}
@@ -36,13 +34,10 @@ module _ (quant a : List ℕ) (most : (i : ℕ) → getD quant i 0 ≤ 255) (bri
   product-is : (n : ℕ) → n < 64 → getD (products a quant) n (pos 0) ≡ pos (divisorOf (getD quant n 0)) *ℤ coefficient (scaledSum 128 a n) (getD quant n 0)
   unfolding products dequantized product
   product-is n h =
-      getD-tab 64 _ (pos 0) n h ∙ ap (λ (z : ℤ). z *ℤ pos (divisorOf (getD quant n 0))) (coefficient-at a quant n h) ∙ *ℤ-comm (coefficient (scaledSum 128 a n) (getD quant n 0)) (pos (divisorOf (getD quant n 0)))
+      getD-tab 64 _ (pos 0) n h ∙ ap (λ (z : ℤ). z *ℤ pos (divisorOf (getD quant n 0))) (coefficient-at 128 a quant n h) ∙ *ℤ-comm (coefficient (scaledSum 128 a n) (getD quant n 0)) (pos (divisorOf (getD quant n 0)))
 
   sum-size : (n : ℕ) → n < 64 → natAbs (scaledSum 128 a n) ≤ 2 ^ 42
-  unfolding centredBlock
-  sum-size n h =
-      let small = getD-every (λ (z : ℤ). natAbs z ≤ 128) 64 (λ i. pos (getD a i 0) -ℤ pos 128) (pos 0) zero-le (λ i b. omega (arith, distance (getD a i 0) 128, bright i)) in
-      subst (λ (z : ℤ). natAbs z ≤ 2 ^ 42) (sum-centred 128 a n) (omega (arith, scaled-size (centredBlock 128 a) 128 small n h))
+  sum-size n h = omega (arith, sum-small 255 128 (omega arith) a (λ i b. bright i) n h)
 
   pub products-small : AtMost 1151 (products a quant)
   unfolding products dequantized divisorOf

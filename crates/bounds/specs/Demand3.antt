@@ -1,7 +1,7 @@
 -- Document 01, "Demand 3 in numbers": what equal coefficients can hide, and how far a block comes back from its coefficients.
 use mathlib.Core.List.{List}
 use mathlib.Core.Path.{_≡_}
-use Prim.Native.Nat.{ℕ, _+_, _*_, _^_, _≤_, _<_}
+use Prim.Native.Nat.{ℕ, _+_, _-_, _*_, _^_, _≤_, _<_}
 use lib.ListN.{getD}
 use lib.IntN.{ℤ, pos, natAbs, _-ℤ_}
 use Rattle.integers.specs.Fits16.{Fits16}
@@ -30,6 +30,10 @@ weightedBasis quant x y = total 64 (λ n. divisorOf (getD quant n 0) * natAbs (b
 -- "the sum of (a - b)² over the 64 places is at most the sum of d(n)² over the 64 frequencies"
 abbrev pub Alike : List ℕ → List ℕ → List ℕ → Type 0
 Alike quant a b = squaredDifferences a b ≤ squaredDivisors quant
+
+-- document 02, card 8, of two 12-bit blocks: "(2^23 - 1) × the sum of squared sample differences ≤ 2^23 × the sum of squared divisors"
+abbrev pub Alike12bit : List ℕ → List ℕ → List ℕ → Type 0
+Alike12bit quant a b = (2 ^ 23 - 1) * squaredDifferences a b ≤ 2 ^ 23 * squaredDivisors quant
 
 -- "At each place (x, y), 2^33 times the size of a - c is at most 2^34 plus" the weighted basis
 abbrev pub Near : List ℕ → List ℕ → List ℕ → Type 0

@@ -1,67 +1,72 @@
-// The canonical forward transform with quantizing of 8-bit blocks (fdct.rs; document 01, leaves 3 and 4; T.81 A.3.3 and A.3.4).
+// The canonical forward transform with quantizing of 8-bit blocks (fdct.rs; document 01, leaves 3 and 4; T.81 A.3.3 and A.3.4), and of
+// 12-bit ones (document 02, card 8).
 //
-// Samples are level-shifted by 128 (T.81 A.3.1); the transform itself, in crate `fdct_block`, serves samples of up to 12 bits and
-// quantizers of 16.
+// Samples are level-shifted by 128, those of 12 bits by 2048 (T.81 A.3.1); the transform itself, in crate `fdct_block`, serves samples of
+// up to 12 bits and quantizers of 16. The definitions of what both write, and the laws, are over the centre and the largest sample.
+pub mod twelve_bit;
+
 ghost use mathlib.Core.Path.{_≡_};
-ghost use Prim.Native.Nat.{ℕ, _≤_};
-ghost use lib.ListN.{length, getD};
-ghost use lib.IntN.{pos, natAbs, _-ℤ_};
+ghost use lib.ListN.{length};
 ghost use Rattle.forward.specs.Forward.{centredBlock};
 ghost use Rattle.refusals.specs.Refusals.{blockTests, status, written};
-ghost use Rattle.forward.specs.Canonical.{coefficients, coefficientAnswer};
+ghost use Rattle.forward.specs.Canonical.{coefficientsAt, coefficients, coefficientAnswer};
+ghost use Rattle.fdct.specs.Level.{Level};
 use fdct_block::coefficient_at;
 use fdct_block::write_coefficients;
 use forward::Coefficient;
 
-// The sample less 128.
-fn level_shifted(sample: u8) -> i16
-    ensures { λ r. ⌜ r ≡ pos sample -ℤ pos 128 ⌝ }
-    ensures { λ r. ⌜ natAbs r ≤ 128 ⌝ }
+fn wide(x: u8) -> u16
+    ensures { λ r. ⌜ r ≡ x ⌝ }
 {
-    (sample as i16) - 128
+    x as u16
 }
 
-fn level_shift(block: &[u8]) -> [i16; 64]
-    requires { ⌜ length (now block) ≡ 64 ⌝ }
-    ensures { λ r. ⌜ r ≡ centredBlock 128 (now (block .entry)) ⌝ }
-    ensures { λ r. ⌜ ((i : ℕ) → natAbs (getD r i (pos 0)) ≤ 128) ⌝ }
-{
-    let mut samples = [0i16; 64];
-    let mut i = 0;
-    while i < 64 {
-        samples[i] = level_shifted(block[i]);
-        i += 1;
-    }
-    samples
-}
-
-fn wide(quantizer: u8) -> u16
-    ensures { λ r. ⌜ r ≡ quantizer ⌝ }
-{
-    quantizer as u16
-}
-
-// An 8-bit table as a 16-bit one.
-pub fn widen(quant: &[u8]) -> [u16; 64]
-    requires { ⌜ length (now quant) ≡ 64 ⌝ }
-    ensures { λ r. ⌜ r ≡ now (quant .entry) ⌝ }
+// An 8-bit table, or an 8-bit block, as one of 16 bits.
+pub fn widen(narrow: &[u8]) -> [u16; 64]
+    requires { ⌜ length (now narrow) ≡ 64 ⌝ }
+    ensures { λ r. ⌜ r ≡ now (narrow .entry) ⌝ }
 {
     let mut wider = [0u16; 64];
     let mut i = 0;
     while i < 64 {
-        wider[i] = wide(quant[i]);
+        wider[i] = wide(narrow[i]);
         i += 1;
     }
     wider
 }
 
-// The coefficients of a block under a widened table: the step of `fdct_quantize`, and of a plane that widens its table once.
+// The samples less their centre.
+fn level_shift(block: &[u16], centre: u16) -> [i16; 64]
+    requires { ⌜ length (now block) ≡ 64 ⌝ }
+    requires { ⌜ Level (now block) centre ⌝ }
+    ensures { λ r. ⌜ r ≡ centredBlock centre (now (block .entry)) ⌝ }
+{
+    let mut samples = [0i16; 64];
+    let mut i = 0;
+    while i < 64 {
+        samples[i] = (block[i] as i16) - (centre as i16);
+        i += 1;
+    }
+    samples
+}
+
+// The coefficients of a block of samples with this centre. Both widths call it, so that the folds are in line behind the level shift: in
+// a function that is handed the shifted samples they are not.
+fn write_centred(block: &[u16], centre: u16, quant: &[u16; 64], out: &mut [i16])
+    requires { ⌜ (length (now block) ≡ 64) × (length (now out) ≡ 64) ⌝ }
+    requires { ⌜ Level (now block) centre ⌝ }
+    ensures { λ _. ⌜ now (out .exit) ≡ coefficientsAt centre (now (block .entry)) (now (quant .entry)) ⌝ }
+{
+    let samples = level_shift(block, centre);
+    write_coefficients(&samples, quant, out);
+}
+
+// The coefficients of an 8-bit block under a widened table: the step of `fdct_quantize`, and of a plane that widens its table once.
 pub fn write_block(block: &[u8], quant: &[u16; 64], out: &mut [i16])
     requires { ⌜ (length (now block) ≡ 64) × (length (now out) ≡ 64) ⌝ }
     ensures { λ _. ⌜ now (out .exit) ≡ coefficients (now (block .entry)) (now (quant .entry)) ⌝ }
 {
-    let samples = level_shift(block);
-    write_coefficients(&samples, quant, out);
+    write_centred(&widen(block), 128, quant, out);
 }
 
 pub fn fdct_quantize(block: &[u8], quant: &[u8], out: &mut [i16]) -> u32
@@ -96,7 +101,7 @@ pub fn fdct_quantize_coefficient(block: &[u8], quantizer: u8, natural: usize) ->
             value: 0,
         };
     }
-    let samples = level_shift(block);
+    let samples = level_shift(&widen(block), 128);
     Coefficient {
         status: 0,
         value: coefficient_at(&samples, wide(quantizer), natural),

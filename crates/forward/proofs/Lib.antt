@@ -3,3 +3,4 @@ pub mod Folding
 pub mod Scaled
 pub mod Parity
 pub mod Canonical
+pub mod Samples

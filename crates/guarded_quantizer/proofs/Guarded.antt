@@ -11,7 +11,7 @@ use Rattle.lists.proofs.Tab.{getD-tab}
 use Rattle.quantize.specs.Quantize.{coefficient}
 use Rattle.forward.specs.Forward.{scaledSum}
 use Rattle.guarded_quantizer.specs.Binary64.{nearHalf, roundedToI16}
-use Rattle.forward.specs.Canonical.{canonical}
+use Rattle.forward.specs.Canonical.{canonicalAt}
 use Rattle.guarded_quantizer.specs.Values.{fdctValue, fdctValues}
 use Rattle.guarded_quantizer.specs.Guarded.{scaledValue, guarded}
 
@@ -19,7 +19,7 @@ use Rattle.guarded_quantizer.specs.Guarded.{scaledValue, guarded}
 pub guarded-at : (block quant : List ℕ) (rs : List Float) (n : ℕ) {values : List Float} {r : ℤ} → values ≡ fdctValues block → n < 64 →
     r ≡ cond (nearHalf (mul binary64 (getD values n nan) (getD rs n nan))) (coefficient (scaledSum 128 block n) (getD quant n 0)) (roundedToI16 (mul binary64 (getD values n nan) (getD rs n nan))) →
     r ≡ guarded block quant rs n
-unfolding fdctValues scaledValue canonical guarded
+unfolding fdctValues scaledValue canonicalAt guarded
 guarded-at block quant rs n e h q =
     let value = ap (λ (l : List Float). getD l n nan) e ∙ getD-tab 64 (fdctValue block) nan n h in
     q ∙ ap (λ (v : Float). cond (nearHalf (mul binary64 v (getD rs n nan))) (coefficient (scaledSum 128 block n) (getD quant n 0)) (roundedToI16 (mul binary64 v (getD rs n nan)))) value

@@ -4,6 +4,7 @@
 // Each function hands its buffers on to the entry of the same name and answers that entry's number: 0, or a refusal's (document 01,
 // "Refusing calls"), and then every buffer is as it was. A slice is a pointer and a length to C.
 mod canonical;
+mod canonical_12bit;
 mod guarded;
 mod inverse;
 mod inverse_i32;

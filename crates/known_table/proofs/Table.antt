@@ -8,7 +8,7 @@ use Rattle.lists.specs.Tab.{tab}
 use Rattle.lists.proofs.Tab.{tab-ext}
 use Rattle.orthogonality.proofs.Equal.{basisSums, equal-sum}
 use Rattle.quantize.specs.Quantize.{divisorOf, rounded, withSign, coefficient}
-use Rattle.forward.specs.Canonical.{canonical, coefficients}
+use Rattle.forward.specs.Canonical.{canonicalAt, coefficientsAt, coefficients}
 use Rattle.integers.specs.Wrap.{modulo, wrap}
 use Rattle.integers.specs.Linear.{dot, transform, zeroAt}
 use Rattle.gains.specs.Gains.{mirror, mirrored, upper, gains}
@@ -23,7 +23,7 @@ unfoldable pub equal : ℕ → ℕ → List ℤ
 equal sample quantizer = tab 64 (λ n. coefficient ((pos sample -ℤ pos 128) *ℤ getD basisSums n (pos 0)) (getD (replicate 64 quantizer) n 0))
 
 pub equal-coefficients : (sample quantizer : ℕ) → coefficients (replicate 64 sample) (replicate 64 quantizer) ≡ equal sample quantizer
-unfolding equal coefficients canonical
+unfolding equal coefficientsAt canonicalAt
 equal-coefficients sample quantizer = tab-ext 64 _ _ (λ n h. ap (λ (S : ℤ). coefficient S (getD (replicate 64 quantizer) n 0)) (equal-sum 128 sample n h))
 
 -- what a case gives, said so

@@ -13,7 +13,7 @@ use Rattle.lists.proofs.Grid.{placed}
 use Rattle.quantize.specs.Quantize.{divisorOf}
 use Rattle.quantize.proofs.Zero.{coefficient-zero}
 use Rattle.forward.specs.Forward.{scaledSum}
-use Rattle.forward.specs.Canonical.{canonical, coefficients}
+use Rattle.forward.specs.Canonical.{canonicalAt, canonical, coefficientsAt, coefficients}
 use Rattle.plane.specs.Plane.{blocks, blockOf, planeCoefficients}
 use Rattle.percent.specs.Percent.{percentTable}
 use Rattle.percent.specs.Nonzeros.{ZerosStay}
@@ -21,7 +21,7 @@ use Rattle.percent.proofs.Table.{divisor-grows, table-divisor}
 
 -- one coefficient
 pub canonical-zero : (block base : List ℕ) (p q n : ℕ) → p ≤ q → n < 64 → canonical block (percentTable base p) n ≡ pos 0 → canonical block (percentTable base q) n ≡ pos 0
-unfolding canonical
+unfolding canonicalAt
 canonical-zero block base p q n h b e =
     let grows : divisorOf (getD (percentTable base p) n 0) ≤ divisorOf (getD (percentTable base q) n 0) = omega (arith, table-divisor base p n b, table-divisor base q n b, divisor-grows (getD base n 0) p q h) in
     coefficient-zero (scaledSum 128 block n) _ _ grows e
@@ -38,7 +38,7 @@ tab-zeros n f g h i e = go (decLt i n)
 
 -- what the block entry writes
 pub block-zeros : (block base : List ℕ) (p q : ℕ) → p ≤ q → ZerosStay (coefficients block (percentTable base p)) (coefficients block (percentTable base q))
-unfolding coefficients
+unfolding coefficientsAt
 block-zeros block base p q h = tab-zeros 64 _ _ (λ n b. canonical-zero block base p q n h b)
 
 -- what the plane entry writes

@@ -19,7 +19,7 @@ use Rattle.lists.proofs.Grid.{index, column-of, row-of, length-grid}
 use Rattle.lists.proofs.Parts.{back, part-back}
 use Rattle.refusals.specs.Refusals.{status}
 use Rattle.refusals.proofs.Refusals.{passed-all}
-use Rattle.forward.specs.Canonical.{canonical, coefficients}
+use Rattle.forward.specs.Canonical.{canonical, coefficientsAt, coefficients}
 use Rattle.plane.specs.Plane.{blocks, sampleAt, blockAt, blockOf, planeCoefficients, measured, forwardTests}
 use Rattle.plane.specs.Ready.{PlaneOf}
 
@@ -70,7 +70,7 @@ module _ (samples : List ℕ) (w h : ℕ) (quant : List ℕ) where
   coded-none out e = none coefficientOf (64 * (blocks w * blocks h)) out e
 
   pub coded-more : {k : ℕ} {out left : List ℤ} → Coded k out → k < blocks w * blocks h → left ≡ paste out (64 * k) (coefficients (blockOf samples w h k) quant) 64 → Coded (k + 1) left
-  unfolding coefficients
+  unfolding coefficientsAt
   coded-more {k} {out} {left} s b e =
       let next : 64 * k + 64 ≡ 64 * (k + 1) = omega arith in
       rw e
@@ -89,7 +89,7 @@ length-block samples w h x y = length-grid 0 8 8 _
 
 -- the block's coefficients in the part of 64 that was lent, and the rest kept
 pub part-coded : (block quant : List ℕ) (out : List ℤ) (a : ℕ) {held : List ℤ} → held ≡ coefficients block quant → back a 64 out held ≡ paste out a (coefficients block quant) 64
-unfolding coefficients
+unfolding coefficientsAt
 part-coded block quant out a e = ap (back a 64 out) e ∙ part-back out (coefficients block quant) a 64 (length-tab 64 _)
 
 -- ---- where no test fails

@@ -13,7 +13,7 @@ use Rattle.lists.specs.Every.{Every}
 use Rattle.lists.proofs.Tab.{getD-tab, tab-ext}
 use Rattle.lists.proofs.Grid.{index, column-of, row-of, grid-at, grid-ext}
 use Rattle.clamping.specs.Clamping.{centered}
-use Rattle.forward.specs.Canonical.{canonical, coefficients}
+use Rattle.forward.specs.Canonical.{coefficientsAt, coefficients}
 use Rattle.stored_blocks.specs.Dequantize.{product, dequantized}
 use Rattle.plane.specs.Plane.{blocks, sampleAt, blockAt, blockOf, planeCoefficients}
 use Rattle.plane.specs.Scale.{Scale, unchanged, clamped16, full, cropped, storedBlock, fitted, blockSamples, planeSamples, recoded}
@@ -45,7 +45,7 @@ module _ (samples : List ℕ) (w h : ℕ) where
 
   -- block k of what is stored is what the block entry writes for block k
   pub stored-coded : (quant : List ℕ) {k : ℕ} → k < blocks w * blocks h → storedBlock (planeCoefficients samples w h quant) k ≡ coefficients (blockOf samples w h k) quant
-  unfolding storedBlock planeCoefficients coefficients
+  unfolding storedBlock planeCoefficients coefficientsAt
   stored-coded quant b = tab-ext 64 _ _ (λ n a. grid-at (pos 0) 64 (blocks w * blocks h) _ a b)
 
 -- ---- a plane coded and decoded

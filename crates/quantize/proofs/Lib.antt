@@ -1,3 +1,4 @@
 pub mod Remainder
 pub mod Halves
 pub mod Zero
+pub mod Size

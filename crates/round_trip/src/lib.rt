@@ -1,5 +1,8 @@
 // Demand 3 of what the calls write (document 01, "Demand 3 in numbers"): every call that it is about, made one after the other for two
-// blocks and one table. The theorem over the definitions is `demand-3` of the crate bounds.
+// blocks and one table. The theorem over the definitions is `demand-3` of the crate bounds. What document 02, card 8, says of two 12-bit
+// blocks is in `twelve_bit`.
+pub mod twelve_bit;
+
 ghost use mathlib.Core.Path.{_≡_};
 ghost use lib.ListN.{length};
 ghost use Rattle.integers.specs.Fits16.{Fits16};

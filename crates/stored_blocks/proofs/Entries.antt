@@ -18,7 +18,7 @@ use Rattle.basis.specs.Basis.{reduced, cosineOf, negated, signed, factor, entry
 use Rattle.quantize.specs.Quantize.{divisorOf}
 use Rattle.forward.specs.Sum.{total}
 use Rattle.forward.specs.Forward.{scaledSum}
-use Rattle.forward.specs.Canonical.{Bytes, canonical, coefficients}
+use Rattle.forward.specs.Canonical.{Bytes, canonicalAt, canonical, coefficientsAt, coefficients}
 use Rattle.stored_blocks.specs.Screen.{SumOf, Passes}
 use Rattle.stored_blocks.specs.declared.Answer.{Answer}
 use Rattle.stored_blocks.specs.Stored.{screened, screenTests, screenAnswer, sameBlocks, sameTests, sameAnswer}
@@ -59,7 +59,7 @@ module _ (cs : List ℤ) (quant : List ℕ) where
 
 -- what the canonical entry writes for any 8-bit block and any table passes
 pub canonical-passes : (block quant : List ℕ) → Bytes block → T (screened (coefficients block quant) quant)
-unfolding coefficients canonical
+unfolding coefficientsAt canonicalAt
 canonical-passes block quant e =
     screen-all (coefficients block quant) quant (λ n h.
     let S : ℤ = scaledSum 128 block n in
@@ -68,7 +68,7 @@ canonical-passes block quant e =
 
 -- so the screen answers yes
 pub canonical-answer : (block quant : List ℕ) → Bytes block → length quant ≡ 64 → screenAnswer (coefficients block quant) quant ≡ answer 0 true
-unfolding coefficients
+unfolding coefficientsAt
 canonical-answer block quant e q =
     sym (screen-answers _ _ (accepted _ _ _ (has (length-tab 64 (canonical block quant)) then has q then tt) (sym (is-true _ (canonical-passes block quant e)))))
 

@@ -19,7 +19,7 @@ use Rattle.forward.specs.Sum.{sumTo, total}
 use Rattle.forward.specs.Forward.{centred, scaledSum}
 use Rattle.forward.specs.Canonical.{Bytes}
 use Rattle.forward.proofs.Sum.{sum-ext, sum-le, sum-pos}
-use Rattle.forward.proofs.Canonical.{bytes}
+use Rattle.forward.proofs.Canonical.{up-to}
 use Rattle.stored_blocks.specs.Screen.{SumOf, Least, Greatest, bySign, low, high}
 
 -- a sample less the centre, times a number of the basis
@@ -57,7 +57,7 @@ module _ (n : ℕ) where
   module _ (s t : ℕ) where
     sign-bytes : s ≤ 255 → t ≤ 255 → Bytes (bySign n s t)
     unfolding bySign
-    sign-bytes hs ht = bytes _ (λ i h. either (nonNeg (at i)))
+    sign-bytes hs ht = up-to 255 _ (λ i h. either (nonNeg (at i)))
       where
         either : (u : Bool) → cond u s t ≤ 255
         either true = hs

@@ -60,7 +60,7 @@ returns-2 c =
     let cb = coded _ _ _ (long .1) (long .2) (long .4) (code-b .fdct-quantize2 .ensures) in
     let q = multiply made in
     let p = put .write-i16 .ensures ∙ q in
-    all-done _ _ _ _ _ _ _ _ _ _ (tested .before .lengths-status .ensures) (tested .if1 .left) (bytes-quant tested) (bytes-a tested) (bytes-b tested) (compared _ _ _ ca cb (c .same .ensures))
+    all-done _ _ _ _ _ _ _ _ _ _ (tested .before .lengths-status .ensures) (tested .if1 .left) (bytes-quant tested) (bytes-a tested) (bytes-b tested) (compared 128 _ _ _ ca cb (c .same .ensures))
     ca cb p (inverted _ _ _ p (long .6) (back .islow-block .ensures)) q (inverted _ _ _ q (long .8) (back-i32 .islow-block-i32 .ensures))
 
 pub round-trip-spec : {M : Type 1} → statement M

@@ -8,14 +8,14 @@ use mir.ValLaws.{toZ-ofZ}
 use Rattle.integers.proofs.Bound.{small-fits}
 use Rattle.lists.specs.Tab.{tab}
 use Rattle.quantize.specs.Quantize.{coefficient}
-use Rattle.forward.specs.Canonical.{canonical}
+use Rattle.forward.specs.Canonical.{canonicalAt}
 use Rattle.guarded_quantizer.proofs.DcSum.{constant-sum}
 use Rattle.guarded_quantizer.proofs.OnlyDc.{only-dc}
 use Rattle.transform.proofs.constant.constant_record.Statement.{statement}
 use Rattle.transform.proofs.constant.constant_record.Tie as tie
 
 returns : tie.Need-returns
-unfolding tab canonical
+unfolding tab canonicalAt
 returns c =
     let made = c .before in
     let called = made .constant-dc in
