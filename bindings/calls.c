@@ -308,6 +308,51 @@ static void guarded(void)
     WROTE(name, 64);
 }
 
+/* Samples that no two rows or columns share: the record has the canonical coefficients. */
+static void canonical_recorded(void)
+{
+    static const char name[] = "jpeg_block_fdct_quantize_record";
+    /* natural indices of the first AC places */
+    static const int natural[] = {0, 1, 8, 16, 9, 2, 3, 10, 17, 24};
+    uint8_t block[65], quant[65];
+    int16_t dc[2] = {7, 7}, canonical[64];
+    uint64_t bitmap[2] = {7, 7};
+    uint8_t table[65];
+    int i, nonzero = 0;
+    OUTPUT(int16_t);
+    for (i = 0; i < 65; i++) {
+        block[i] = (uint8_t)(i * i * 37 + i / 8);
+        quant[i] = (uint8_t)(1 + i);
+        table[i] = 7;
+    }
+    REFUSED(name, jpeg_block_fdct_quantize_record(block, 63, quant, 63, dc, 0, output, 63, bitmap, 0, table, 0), 1);
+    REFUSED(name, jpeg_block_fdct_quantize_record(NULL, 0, NULL, 0, NULL, 0, NULL, 0, NULL, 0, NULL, 0), 1);
+    REFUSED(name, jpeg_block_fdct_quantize_record(block, 64, quant, 65, dc, 0, output, 63, bitmap, 0, table, 0), 2);
+    REFUSED(name, jpeg_block_fdct_quantize_record(block, 64, quant, 64, dc, 2, output, 64, bitmap, 1, table, 64), 3);
+    REFUSED(name, jpeg_block_fdct_quantize_record(block, 64, quant, 64, dc, 1, output, 63, bitmap, 1, table, 64), 3);
+    REFUSED(name, jpeg_block_fdct_quantize_record(block, 64, quant, 64, dc, 1, output, 64, bitmap, 0, table, 64), 3);
+    REFUSED(name, jpeg_block_fdct_quantize_record(block, 64, quant, 64, dc, 1, output, 64, bitmap, 1, table, 65), 3);
+    quant[63] = 0;
+    REFUSED(name, jpeg_block_fdct_quantize_record(block, 64, quant, 64, dc, 0, output, 63, bitmap, 0, table, 0), 5);
+    quant[63] = 64;
+    expect(dc[0] == 7 && bitmap[0] == 7 && table[0] == 7, name, "a refused call wrote");
+    expect(jpeg_block_fdct_quantize_record(block, 64, quant, 64, dc, 1, output, 64, bitmap, 1, table, 64) == 0, name, "is refused");
+    expect(jpeg_block_fdct_quantize(block, 64, quant, 64, canonical, 64) == 0, name, "no canonical coefficients");
+    expect(dc[0] == canonical[0] && dc[1] == 7, name, "DC");
+    expect(output[0] == 0, name, "AC place 0");
+    for (i = 1; i < 10; i++) {
+        expect(output[i] == canonical[natural[i]], name, "an AC coefficient");
+        nonzero += output[i] != 0;
+    }
+    expect(nonzero > 4, name, "AC coefficients that are zero");
+    for (i = 0; i < 64; i++) {
+        expect((i > 0 && output[i] != 0) == (i > 0 && (bitmap[0] >> (64 - i) & 1) == 1), name, "a bit");
+        expect(table[i] == quant[i], name, "a divisor of the record");
+    }
+    expect(bitmap[1] == 7 && table[64] == 7, name, "wrote after the record");
+    WROTE(name, 64);
+}
+
 static void dequantized(void)
 {
     static const char name[] = "jpeg_block_dequantize";
@@ -544,6 +589,7 @@ int main(void)
     inverse_planes();
     divisors_made();
     guarded();
+    canonical_recorded();
     dequantized();
     screened();
     same_blocks();

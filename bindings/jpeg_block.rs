@@ -123,6 +123,20 @@ pub mod raw {
             record_divisors: *mut u8,
             record_divisors_len: usize,
         ) -> u32;
+        pub fn jpeg_block_fdct_quantize_record(
+            block: *const u8,
+            block_len: usize,
+            quant: *const u8,
+            quant_len: usize,
+            dc: *mut i16,
+            dc_len: usize,
+            ac: *mut i16,
+            ac_len: usize,
+            nonzero_ac: *mut u64,
+            nonzero_ac_len: usize,
+            record_divisors: *mut u8,
+            record_divisors_len: usize,
+        ) -> u32;
         pub fn jpeg_block_same_records(
             a_dc: i16,
             a_ac: *const i16,
@@ -419,6 +433,38 @@ pub fn fdct_quantize_guarded(
             quant.len(),
             divisors.as_ptr(),
             divisors.len(),
+            &mut made.dc,
+            1,
+            made.ac_coefficients.as_mut_ptr(),
+            made.ac_coefficients.len(),
+            &mut made.nonzero_ac,
+            1,
+            made.divisors.as_mut_ptr(),
+            made.divisors.len(),
+        )
+    };
+    answer(status, made)
+}
+
+/// The record of a block's canonical coefficients, by the guarded quantizer with
+/// the divisors made from the table in this call. Refusals: 1, a block not of 64
+/// places; 2, a table not of 64; 5, a quantizer 0.
+#[inline]
+pub fn fdct_quantize_record(block: &[u8], quant: &[u8]) -> Result<QuantizedBlock, u32> {
+    let mut made = QuantizedBlock {
+        dc: 0,
+        ac_coefficients: [0; 64],
+        nonzero_ac: 0,
+        divisors: [0; 64],
+    };
+    // SAFETY: the inputs are slices, and the outputs the parts of this
+    // function's own record.
+    let status = unsafe {
+        raw::jpeg_block_fdct_quantize_record(
+            block.as_ptr(),
+            block.len(),
+            quant.as_ptr(),
+            quant.len(),
             &mut made.dc,
             1,
             made.ac_coefficients.as_mut_ptr(),

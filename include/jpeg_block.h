@@ -92,6 +92,11 @@ uint32_t jpeg_block_quantization_divisors(const uint8_t *quant, size_t quant_len
  * Refusals 1, 2, 5; then 2 for the divisors; 3 for any of the four outputs. */
 uint32_t jpeg_block_fdct_quantize_guarded(const uint8_t *block, size_t block_len, const uint8_t *quant, size_t quant_len, const double *divisors, size_t divisors_len, int16_t *dc, size_t dc_len, int16_t *ac, size_t ac_len, uint64_t *nonzero_ac, size_t nonzero_ac_len, uint8_t *record_divisors, size_t record_divisors_len);
 
+/* The same record, with the divisors made from the table: then the guarded coefficients are proved to be the canonical ones, those of
+ * jpeg_block_fdct_quantize, for every block and every table of quantizers 1 to 255. The divisors are made in each call.
+ * Refusals 1, 2, 5; then 3 for any of the four outputs. */
+uint32_t jpeg_block_fdct_quantize_record(const uint8_t *block, size_t block_len, const uint8_t *quant, size_t quant_len, int16_t *dc, size_t dc_len, int16_t *ac, size_t ac_len, uint64_t *nonzero_ac, size_t nonzero_ac_len, uint8_t *record_divisors, size_t record_divisors_len);
+
 /* Into yes[0]: 1 when two records of the guarded quantizer have the same DC, the same ac[1] to ac[63] and the same 64 divisors, else 0;
  * yes_len 1. ac[0] is not looked at, and the bitmap is not asked for. Refusals 1 for the AC places of either record, 2 for the divisors of
  * either, 3. */

@@ -141,6 +141,10 @@ rust! {
     rust_fdct_quantize_guarded(input: &Guarded, output: &mut Option<Quantized>) {
         *output = Some(j2k_encoder::fdct_quantize(&input.block, &input.quant, &input.theirs));
     }
+    rust_fdct_quantize_record(input: &Guarded, output: &mut Option<Quantized>) {
+        let divisors = Divisors::new(&input.quant);
+        *output = Some(j2k_encoder::fdct_quantize(&input.block, &input.quant, &divisors));
+    }
     rust_dequantize(input: &([i16; 64], [u8; 64]), output: &mut [i32; 64]) {
         for n in 0..64 {
             output[n] = i32::from(input.0[n]) * i32::from(input.1[n].max(1));
@@ -633,6 +637,22 @@ fn main() {
                  output| {
                     let made =
                         jpeg_block::fdct_quantize_guarded(block, quant, ours).expect("no refusal");
+                    *output = Some(Quantized {
+                        dc: made.dc,
+                        ac_coefficients: made.ac_coefficients,
+                        nonzero_ac: made.nonzero_ac,
+                    });
+                },
+            );
+            // Both make the divisors in each call.
+            mode.run(
+                "fdct_quantize_record",
+                kind,
+                &blocks,
+                None,
+                rust_fdct_quantize_record,
+                |Guarded { block, quant, .. }, output| {
+                    let made = jpeg_block::fdct_quantize_record(block, quant).expect("no refusal");
                     *output = Some(Quantized {
                         dc: made.dc,
                         ac_coefficients: made.ac_coefficients,

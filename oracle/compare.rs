@@ -33,9 +33,11 @@ mod stored;
 mod twelve_bit;
 
 use blocks::{blocks_from, Clamp, CLAMP_12BIT, CLAMP_8BIT};
-use forward::{any_table, single_coefficients_from, whole_blocks_from, Single, Table, Whole};
+use forward::{
+    any_table, single_coefficients_from, whole_blocks_from, Samples, Single, Table, Whole,
+};
 use guarded::{handed_from, made_from, Handed};
-use j2k_codec_math::jpeg::{fdct, idct};
+use j2k_codec_math::jpeg::{fdct, idct, ZIGZAG};
 use j2k_encoder::Divisors;
 use jpeg_block::raw;
 use numbers::{ends, least, most, powers, Number, Random, SEED};
@@ -247,6 +249,40 @@ impl Outputs {
             )
         }
     }
+
+    fn call_record(&mut self, block: &[u8], quant: &[u8]) -> u32 {
+        let (dc, ac, nonzero_ac) = (self.dc.places(), self.ac.places(), self.nonzero_ac.places());
+        let record_divisors = self.divisors.places();
+        // SAFETY: all are slices, and an exclusive one overlaps no other.
+        unsafe {
+            raw::jpeg_block_fdct_quantize_record(
+                block.as_ptr(),
+                block.len(),
+                quant.as_ptr(),
+                quant.len(),
+                dc.as_mut_ptr(),
+                dc.len(),
+                ac.as_mut_ptr(),
+                ac.len(),
+                nonzero_ac.as_mut_ptr(),
+                nonzero_ac.len(),
+                record_divisors.as_mut_ptr(),
+                record_divisors.len(),
+            )
+        }
+    }
+
+    fn record(&self, status: u32) -> Record {
+        Record {
+            status,
+            dc: self.dc.held()[0],
+            ac: self.ac.held().try_into().expect("64 places"),
+            nonzero_ac: self.nonzero_ac.held()[0],
+            divisors: self.divisors.held().try_into().expect("64 places"),
+            guards: self.guards(),
+        }
+    }
+
     fn kept(&self) -> bool {
         self.dc.kept() && self.ac.kept() && self.nonzero_ac.kept() && self.divisors.kept()
     }
@@ -266,6 +302,39 @@ struct Record {
     /// Not in the published Rust: held to the table.
     divisors: Table,
     guards: bool,
+}
+
+impl Record {
+    /// What a call leaves that is refused for a quantizer 0. No list has one,
+    /// but `smallest` may try it.
+    fn refused() -> Self {
+        Record {
+            status: 5,
+            dc: i16::FILL,
+            ac: [i16::FILL; 64],
+            nonzero_ac: u64::FILL,
+            divisors: [u8::FILL; 64],
+            guards: true,
+        }
+    }
+
+    /// The Rust's canonical coefficients, in zigzag order with their bitmap.
+    fn canonical(block: &Samples, quant: &Table) -> Self {
+        let coefficients = fdct::fdct_quantize(block, quant);
+        let ac: [i16; 64] = core::array::from_fn(|z| match z {
+            0 => 0,
+            _ => coefficients[usize::from(ZIGZAG[z])],
+        });
+        let bit = |z: &usize| u64::from(ac[*z] != 0) << (64 - z);
+        Record {
+            status: 0,
+            dc: coefficients[0],
+            ac,
+            nonzero_ac: (1..64).map(|z| bit(&z)).sum(),
+            divisors: *quant,
+            guards: true,
+        }
+    }
 }
 
 /// Calls with an output of N places between guards. A 64-place output needs
@@ -1042,8 +1111,9 @@ impl Compare {
     }
 
     /// The lengths of the guarded quantizer: those of the inputs with right
-    /// outputs and with wrong ones, and those of the outputs.
-    fn guarded_lengths(tally: &mut Tally, quantizer: u8) {
+    /// outputs and with wrong ones, and those of the outputs. The record of the
+    /// canonical coefficients takes no divisors.
+    fn guarded_lengths(tally: &mut Tally, quantizer: u8, takes_divisors: bool) {
         let mut inputs = Vec::new();
         for a in LENGTHS {
             for b in LENGTHS {
@@ -1062,7 +1132,7 @@ impl Compare {
                 2
             } else if quantizer == 0 {
                 5
-            } else if c != 64 {
+            } else if takes_divisors && c != 64 {
                 2
             } else if outputs_of != (1, 64, 1, 64) {
                 3
@@ -1072,7 +1142,11 @@ impl Compare {
             let block: Vec<u8> = (0..a).map(|n| (37 * n) as u8).collect();
             let (quant, divisors) = (vec![quantizer; b], vec![0.125; c]);
             let mut outputs = Outputs::new(outputs_of);
-            let status = outputs.call(&block, &quant, &divisors);
+            let status = if takes_divisors {
+                outputs.call(&block, &quant, &divisors)
+            } else {
+                outputs.call_record(&block, &quant)
+            };
             let kept = if number == 0 {
                 outputs.guards()
             } else {
@@ -1095,8 +1169,8 @@ impl Compare {
 
     fn guarded(&mut self) {
         let mut tally = Tally::new("fdct_quantize_guarded");
-        Self::guarded_lengths(&mut tally, 3);
-        Self::guarded_lengths(&mut tally, 0);
+        Self::guarded_lengths(&mut tally, 3, true);
+        Self::guarded_lengths(&mut tally, 0, true);
         self.inputs(
             tally,
             |seed| {
@@ -1112,26 +1186,11 @@ impl Compare {
             |(block, (quant, divisors)): &Handed| {
                 let mut outputs = Outputs::new((1, 64, 1, 64));
                 let status = outputs.call(block, quant, divisors);
-                Record {
-                    status,
-                    dc: outputs.dc.held()[0],
-                    ac: outputs.ac.held().try_into().expect("64 places"),
-                    nonzero_ac: outputs.nonzero_ac.held()[0],
-                    divisors: outputs.divisors.held().try_into().expect("64 places"),
-                    guards: outputs.guards(),
-                }
+                outputs.record(status)
             },
             |(block, (quant, divisors))| {
-                // No list has a quantizer 0, but smallest() may try one.
                 if quant.contains(&0) {
-                    return Record {
-                        status: 5,
-                        dc: i16::FILL,
-                        ac: [i16::FILL; 64],
-                        nonzero_ac: u64::FILL,
-                        divisors: [u8::FILL; 64],
-                        guards: true,
-                    };
+                    return Record::refused();
                 }
                 let made = j2k_encoder::fdct_quantize(block, quant, &Divisors::of(*divisors));
                 Record {
@@ -1142,6 +1201,32 @@ impl Compare {
                     divisors: *quant,
                     guards: true,
                 }
+            },
+        );
+    }
+
+    /// The guarded quantizer, with the divisors of its own table, against the
+    /// Rust's canonical one: blocks near the guard's end among others.
+    fn agreement(&mut self) {
+        let mut tally = Tally::new("fdct_quantize_record");
+        Self::guarded_lengths(&mut tally, 3, false);
+        Self::guarded_lengths(&mut tally, 0, false);
+        self.inputs(
+            tally,
+            |seed| {
+                let made = made_from(seed, 2, LIST).into_iter();
+                made.map(|(block, (quant, _))| (block, quant)).collect()
+            },
+            |(block, quant): &(Samples, Table)| {
+                let mut outputs = Outputs::new((1, 64, 1, 64));
+                let status = outputs.call_record(block, quant);
+                outputs.record(status)
+            },
+            |(block, quant)| {
+                if quant.contains(&0) {
+                    return Record::refused();
+                }
+                Record::canonical(block, quant)
             },
         );
     }
@@ -1473,6 +1558,7 @@ fn main() {
     compare.planes();
     compare.divisors();
     compare.guarded();
+    compare.agreement();
     compare.stored();
     compare.records();
     compare.percents();

@@ -20,7 +20,7 @@ use forward::{single_coefficients, whole_blocks};
 use j2k_codec_math::jpeg::{fdct, idct, ZIGZAG};
 use j2k_encoder::Divisors;
 use numbers::{ends, least, most, powers, Number, Random, SEED};
-use std::path::PathBuf;
+use std::path::{Path, PathBuf};
 use stored::{
     coded_blocks, dequantized, pairs_of_blocks, same, screen_ends, screened, stored_blocks,
 };
@@ -576,10 +576,42 @@ fn deliberately_wrong(to: &mut Answers) {
     );
 }
 
+/// The input of the program `near_half`, and what it must print: the Rust's
+/// guarded quantizer and its canonical one differ nowhere.
+fn near_half(folder: &Path) {
+    let (cases, guards) = guarded::near_half(300);
+    let mut input = Vec::new();
+    let mut differences = 0;
+    for (block, quant) in &cases {
+        input.extend(block);
+        input.extend(quant);
+        let made = j2k_encoder::fdct_quantize(block, quant, &Divisors::new(quant));
+        let canonical = fdct::fdct_quantize(block, quant);
+        differences += (0..64)
+            .filter(|&z| {
+                let here = if z == 0 {
+                    made.dc
+                } else {
+                    made.ac_coefficients[z]
+                };
+                here != canonical[usize::from(ZIGZAG[z])]
+            })
+            .count();
+    }
+    let lines = format!(
+        "blocks {}\ncoefficients {}\nguard taken {guards}\ndifferences {differences}\n",
+        cases.len(),
+        64 * cases.len()
+    );
+    std::fs::write(folder.join("stdin"), input).expect("the blocks are written");
+    std::fs::write(folder.join("stdout"), lines).expect("the lines are written");
+}
+
 fn main() {
     let mut args = std::env::args().skip(1);
     let folder = PathBuf::from(args.next().expect("the folder for the answers"));
     let lines = args.next().expect("the file for the lines");
+    let near = PathBuf::from(args.next().expect("the folder of near_half"));
     let mut to = Answers {
         folder,
         lines: String::new(),
@@ -597,4 +629,5 @@ fn main() {
     guarded_entries(&mut to);
     deliberately_wrong(&mut to);
     std::fs::write(lines, to.lines).expect("the lines are written");
+    near_half(&near);
 }

@@ -45,6 +45,22 @@ fn near_a_half(count: usize, random: &mut Random) -> Vec<Made> {
     inside
 }
 
+/// The blocks and tables of the program `near_half`, and how many of their
+/// values lie inside the guard.
+pub fn near_half(count: usize) -> (Vec<(Samples, Table)>, usize) {
+    let all: Vec<_> = near_a_half(count, &mut Random(SEED))
+        .into_iter()
+        .map(|(block, (quant, _))| (block, quant))
+        .collect();
+    let taken = |(block, quant): &(Samples, Table)| {
+        let scaled = j2k_encoder::scaled_values(block, &Divisors::new(quant));
+        let near = |q: &&f64| (q.abs().fract() - 0.5).abs() < GUARD;
+        scaled.iter().filter(near).count()
+    };
+    let guards = all.iter().map(taken).sum();
+    (all, guards)
+}
+
 /// Equal samples, and such with one that differs.
 fn nearly_constant(random: &mut Random) -> Vec<Made> {
     let mut all = Vec::new();

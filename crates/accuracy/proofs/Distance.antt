@@ -13,7 +13,7 @@ use Rattle.gains.specs.Gains.{mirror, mirrored, upper, gains}
 use Rattle.basis.specs.Cosine.{cosines}
 use Rattle.basis.specs.Basis.{reduced, cosineOf, negated, signed, factor, entry, reflected, mirrors, basis}
 use Rattle.forward.specs.Sum.{total}
-use Rattle.accuracy.proofs.Gains.{gainOf}
+use Rattle.forward.proofs.Sum.{gainOf}
 
 -- 8 times the gains' products at (x, y) against the basis there, over the gains as an argument, so that they are computed once
 unfoldable pub distance : List (List ℤ) → ℕ → ℕ → ℕ

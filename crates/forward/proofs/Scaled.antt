@@ -1,6 +1,6 @@
--- How large a fold and its sum are, over the largest sample.
+-- How large a fold and its sum are, over the largest sample; how far two sums of products are apart.
 -- Assumes nothing.
-use mathlib.Core.Path.{_≡_, refl, sym, _∙_}
+use mathlib.Core.Path.{_≡_, refl, sym, ap}
 use mathlib.Core.Bool.{Bool, true, false}
 use mathlib.Core.List.{List}
 use Prim.Native.Nat.{ℕ, _+_, _-_, _*_, _/_, _%_, _^_, _<_, _≤_, zero-le}
@@ -8,7 +8,7 @@ use native.Mathlib.Nat.{le-trans, le-of-eq, mul-le-mul-left, mul-le-mul-right}
 use native.Mathlib.Omega.{arith}
 use lib.Dec.{leb, leb→le}
 use lib.ListN.{getD}
-use lib.IntN.{ℤ, pos, natAbs, _+ℤ_, _*ℤ_}
+use lib.IntN.{ℤ, pos, natAbs, _+ℤ_, _-ℤ_, _*ℤ_}
 use Rattle.integers.proofs.Ring.{natAbs-+, natAbs-*, natAbs-neg}
 use Rattle.lists.proofs.Tab.{getD-every}
 use Rattle.lists.specs.Below.{below}
@@ -18,7 +18,7 @@ use Rattle.basis.specs.Basis.{signed, negated, reduced, factor, cosineOf, entry
 use Rattle.forward.specs.Sum.{sumTo, total}
 use Rattle.forward.specs.Forward.{centredSum}
 use Rattle.forward.specs.Parity.{mirrorSigned, folded, foldedQuadrant, foldSum}
-use Rattle.forward.proofs.Sum.{natAbs-sum, total-le, total-scale}
+use Rattle.forward.proofs.Sum.{sums-apart, natAbs-sum, total-le, total-scale}
 use Rattle.forward.proofs.Folding.{fold-sum}
 
 -- a sum of products whose first factors are at most B
@@ -26,6 +26,11 @@ pub natAbs-products : (n B : ℕ) (f g : ℕ → ℤ) → ((k : ℕ) → k < n �
 natAbs-products n B f g h =
     le-trans (natAbs-sum n (λ k. f k *ℤ g k))
     (le-trans (total-le n _ _ (λ k b. omega (arith, natAbs-* (f k) (g k), mul-le-mul-right (natAbs (g k)) (h k b)))) (le-of-eq (sym (total-scale B n (λ k. natAbs (g k))))))
+
+-- sums with the same factors d, W in weight, of numbers a and b, where k·a is within e of b
+pub sums-near : (m : ℕ) (k : ℤ) (a b d : ℕ → ℤ) (e W : ℕ) → ((i : ℕ) → i < m → natAbs (k *ℤ a i -ℤ b i) ≤ e) → total m (λ i. natAbs (d i)) ≤ W →
+    natAbs (k *ℤ sumTo m (λ i. a i *ℤ d i) -ℤ sumTo m (λ i. b i *ℤ d i)) ≤ e * W
+sums-near m k a b d e W h w = le-trans (le-of-eq (ap natAbs (sums-apart m k a b d))) (le-trans (natAbs-products m e (λ i. k *ℤ a i -ℤ b i) d h) (mul-le-mul-left e w))
 
 -- the 16 entries of each frequency, computed
 entries-small : (n : ℕ) → n < 64 → total 16 (λ k. natAbs (entry n (k / 4) (k % 4))) ≤ 2 ^ 33

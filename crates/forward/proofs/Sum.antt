@@ -3,21 +3,21 @@
 use mathlib.Core.Path.{_≡_, refl, sym, ap, ap₂, _∙_}
 use mathlib.Core.Bool.{Bool, cond}
 use mathlib.Core.List.{List, [], _∷_, _++_}
-use Prim.Native.Nat.{ℕ, zero, suc, _+_, _*_, _≤_, _<_, zero-le}
+use Prim.Native.Nat.{ℕ, zero, suc, _+_, _*_, _/_, _%_, _≤_, _<_, zero-le}
 use native.Mathlib.Decide.{decLt}
 use native.Mathlib.Nat.{add-zero, add-suc, zero-mul, suc-mul, add-le-add}
 use native.Mathlib.Omega.{arith}
 use borrow.Author.Tests.{eq-eqb, ne-eqb}
 use lib.Dec.{eqb}
-use lib.ListN.{length}
-use lib.IntN.{ℤ, pos, natAbs, _+ℤ_, _-ℤ_, _*ℤ_, +ℤ-assoc, +ℤ-idl, +ℤ-idr, *ℤ-zero}
+use lib.ListN.{length, getD}
+use lib.IntN.{ℤ, pos, natAbs, _+ℤ_, _-ℤ_, _*ℤ_, +ℤ-assoc, +ℤ-idl, +ℤ-idr, *ℤ-zero, *ℤ-comm}
 use lib.Signed.{_≤ℤ_, ≤ℤ-refl}
 use Rattle.integers.specs.Linear.{dot, weight}
 use Rattle.integers.proofs.Difference.{dif-eq, by-dif, differences}
 use Rattle.integers.proofs.Order.{≤ℤ-+}
 use Rattle.integers.proofs.Ring.{+ℤ-left-comm, *ℤ-+ℤ, natAbs-+}
 use Rattle.lists.specs.Tab.{tab}
-use Rattle.lists.proofs.Tab.{length-tab}
+use Rattle.lists.proofs.Tab.{length-tab, tab-getD}
 use Rattle.forward.specs.Sum.{sumTo, total}
 
 -- ---- integers
@@ -77,6 +77,27 @@ sum-rows f zero n = ap (λ (k : ℕ). sumTo k f) (zero-mul n)
 sum-rows f (suc m) n =
     ap (λ (k : ℕ). sumTo k f) (suc-mul m n) ∙ sum-append f (m * n) n ∙ ap (λ (s : ℤ). s +ℤ sumTo n (λ x. f (m * n + x))) (sum-rows f m n)
 
+-- the 64 places of a block, row by row
+pub sum-block : (f : ℕ → ℕ → ℕ → ℤ) → sumTo 8 (λ y. sumTo 8 (λ x. f x y (8 * y + x))) ≡ sumTo 64 (λ i. f (i % 8) (i / 8) i)
+sum-block f = sum-ext 8 _ _ (λ y h. sum-ext 8 _ _ (λ x l. place y x l)) ∙ sym (sum-rows (λ i. f (i % 8) (i / 8) i) 8 8)
+  where
+    place : (y x : ℕ) → x < 8 → f x y (8 * y + x) ≡ f ((y * 8 + x) % 8) ((y * 8 + x) / 8) (y * 8 + x)
+    place y x h =
+        let column : (y * 8 + x) % 8 ≡ x = omega arith in
+        let row : (y * 8 + x) / 8 ≡ y = omega arith in
+        let index : 8 * y + x ≡ y * 8 + x = omega arith in
+        λ i. f (sym column i) (sym row i) (index i)
+
+-- k times one sum against another, with the same factors d
+pub sums-apart : (m : ℕ) (k : ℤ) (a b d : ℕ → ℤ) → k *ℤ sumTo m (λ i. a i *ℤ d i) -ℤ sumTo m (λ i. b i *ℤ d i) ≡ sumTo m (λ i. (k *ℤ a i -ℤ b i) *ℤ d i)
+sums-apart m k a b d =
+    ap (λ (z : ℤ). z -ℤ sumTo m (λ i. b i *ℤ d i)) (sum-scale k m (λ i. a i *ℤ d i))
+    ∙ sum-sub m (λ i. k *ℤ (a i *ℤ d i)) (λ i. b i *ℤ d i)
+    ∙ sum-ext m _ _ (λ i h. gather k (a i) (b i) (d i))
+  where
+    gather : (k a b d : ℤ) → k *ℤ (a *ℤ d) -ℤ b *ℤ d ≡ (k *ℤ a -ℤ b) *ℤ d
+    gather = by-dif _ λ a b. by-dif _ λ c d. by-dif _ λ e f. by-dif _ λ g h. simp differences (dif-eq _ _ _ _ (omega arith))
+
 -- one term alone, c times
 pub sum-at : (m : ℕ) (f : ℕ → ℤ) (c : ℤ) (p : ℕ) → p < m → sumTo m (λ i. f i *ℤ cond (eqb p i) c (pos 0)) ≡ f p *ℤ c
 unfolding sumTo
@@ -110,6 +131,16 @@ unfolding sumTo tab dot
 dot-tab zero f g = refl
 dot-tab (suc m) f g =
     dot-snoc (tab m f) (tab m g) (f m) (g m) (length-tab m f ∙ sym (length-tab m g)) ∙ ap (λ (z : ℤ). z +ℤ f m *ℤ g m) (dot-tab m f g)
+
+-- entry k of row j of a matrix, and a row's product with a list
+unfoldable pub gainOf : List (List ℤ) → ℕ → ℕ → ℤ
+gainOf rows j k = getD (getD rows j []) k (pos 0)
+
+pub row-sum : (rows : List (List ℤ)) (j m : ℕ) (f : ℕ → ℤ) → length (getD rows j []) ≡ m → dot (getD rows j []) (tab m f) ≡ sumTo m (λ k. f k *ℤ gainOf rows j k)
+unfolding gainOf
+row-sum rows j m f e =
+    ap (λ (row : List ℤ). dot row (tab m f)) (sym (tab-getD (pos 0) (getD rows j []) m e))
+    ∙ dot-tab m (gainOf rows j) f ∙ sum-ext m _ _ (λ k b. *ℤ-comm (gainOf rows j k) (f k))
 
 -- ---- natural numbers
 

@@ -3,7 +3,7 @@
 use mathlib.Core.Path.{_≡_, sym, ap, subst, _∙_}
 use mathlib.Core.Bool.{Bool}
 use Prim.Native.Nat.{ℕ, suc, _+_, _-_, _*_, _/_, _%_, _^_, _≤_, _<_, compare}
-use native.Mathlib.Nat.{lt-of-lt-of-le, mul-assoc, suc-mul, mul-pos, mul-le-mul-right, mod-lt, div-add-mod', mul-div-cancel}
+use native.Mathlib.Nat.{lt-of-lt-of-le, mul-comm, mul-assoc, mul-left-comm, suc-mul, mul-pos, mul-le-mul-left, mul-le-mul-right, lt-of-mul-lt-mul-right, mod-lt, div-add-mod', div-lt-iff-lt-mul, mul-div-mul-right}
 use native.Mathlib.Omega.{arith}
 use lib.Pow.{pow-add, pow-pos, pow-mono}
 use lib.Ieee.{Float, binary64, size, units, round}
@@ -22,30 +22,39 @@ closest-near p u U =
     go : (cu qu su r : ℕ) → cu ≤ su → qu ≤ cu → su ≡ qu + u → qu + r ≡ p → r < u → (cu ≤ p + u) × (p ≤ cu + u)
     go cu qu su r a b c d e = omega arith
 
--- p units, fewer than 2 ^ (53 + k), round to a whole number v of units that is within 2 ^ k of p
-pub round-near : (s : Bool) (p k : ℕ) → p < 2 ^ (53 + k) → k ≤ 2044 →
-    (v : ℕ) × HasValue (round binary64 s p (2 ^ 1074)) s v (2 ^ 1074) × (v ≤ p + 2 ^ k) × (p ≤ v + 2 ^ k)
-round-near s p k h l =
-    let whole : p * 2 ^ 1074 / 2 ^ 1074 ≡ p = mul-div-cancel p (pow-pos 1074) in
-    let j : ℕ = size (p * 2 ^ 1074 / 2 ^ 1074) - 53 in
-    let j-le : j ≤ k = spare (size (p * 2 ^ 1074 / 2 ^ 1074)) (size-le (p * 2 ^ 1074 / 2 ^ 1074) (53 + k) (subst (λ (z : ℕ). z < 2 ^ (53 + k)) (sym whole) h)) in
-    let c : ℕ = closest p (2 ^ j) in
-    let same : closest (p * 2 ^ 1074) (2 ^ 1074 * 2 ^ j) ≡ c = closest-same (p * 2 ^ 1074) (2 ^ 1074 * 2 ^ j) p (2 ^ j) (mul-pos (pow-pos 1074) (pow-pos j)) (pow-pos j) (mul-assoc p (2 ^ 1074) (2 ^ j)) in
-    let near = within (c * 2 ^ j) (2 ^ j) (2 ^ k) (pow-mono j-le) (closest-near p (2 ^ j) (pow-pos j) .0) (closest-near p (2 ^ j) (pow-pos j) .1) in
-    let small : c * 2 ^ j < 2 ^ 2098 = lt-of-lt-of-le (below (c * 2 ^ j) (near .0)) (pow-mono (room k l)) in
-    (c * 2 ^ j, subst (λ (x : Float). HasValue x s (c * 2 ^ j) (2 ^ 1074)) (sym (round-is binary64 s p (2 ^ 1074) ∙ ap (λ (z : ℕ). units binary64 s z j) same)) (units-val binary64 s c j small), near .0, near .1)
+-- p / D units, fewer than 2 ^ (53 + K), round to a whole number v of units that is within 2 ^ K of p / D
+pub round-near : (s : Bool) (p D K : ℕ) → 0 < D → p < 2 ^ (53 + K) * D → K ≤ 2044
+    → (v : ℕ) × HasValue (round binary64 s p (D * 2 ^ 1074)) s v (2 ^ 1074) × (v * D ≤ p + D * 2 ^ K) × (p ≤ v * D + D * 2 ^ K)
+round-near s p D K C h k =
+    let L = 2 ^ 1074 in
+    let n = p * L in
+    let den = D * L in
+    let e : n / den ≡ p / D = mul-div-mul-right p D (pow-pos 1074) in
+    let j = size (n / den) - 53 in
+    let j-le : j ≤ K = spare (size (n / den)) K (size-le (n / den) (53 + K) (subst (λ (z : ℕ). z < 2 ^ (53 + K)) (sym e) (div-lt-iff-lt-mul C .1 h))) in
+    let u = D * 2 ^ j in
+    let U : 0 < u = mul-pos C (pow-pos j) in
+    let c = closest p u in
+    let same : closest n (den * 2 ^ j) ≡ c = closest-same n (den * 2 ^ j) p u (mul-pos (mul-pos C (pow-pos 1074)) (pow-pos j)) U (mul-assoc p L u ∙ ap (λ (z : ℕ). p * z) (mul-left-comm L D (2 ^ j) ∙ sym (mul-assoc D L (2 ^ j)))) in
+    let v = c * 2 ^ j in
+    let vD : v * D ≡ c * u = mul-assoc c (2 ^ j) D ∙ ap (λ (z : ℕ). c * z) (mul-comm (2 ^ j) D) in
+    let u-le : u ≤ D * 2 ^ K = mul-le-mul-left D (pow-mono j-le) in
+    let w = closest-near p u U in
+    let near : (v * D ≤ p + D * 2 ^ K) × (p ≤ v * D + D * 2 ^ K) = within (v * D) (c * u) u (D * 2 ^ K) vD u-le (w .0) (w .1) in
+    let small : v < 2 ^ 2098 = lt-of-lt-of-le (lt-of-mul-lt-mul-right D (under (v * D) (near .0))) (pow-mono (room K k)) in
+    (v, subst (λ (x : Float). HasValue x s v L) (sym (round-is binary64 s p den ∙ ap (λ (z : ℕ). units binary64 s z j) same)) (units-val binary64 s c j small), near .0, near .1)
   where
-    spare : (z : ℕ) → z ≤ 53 + k → z - 53 ≤ k
-    spare z a = omega arith
+    spare : (z K : ℕ) → z ≤ 53 + K → z - 53 ≤ K
+    spare z K h = omega arith
 
-    within : (v u e : ℕ) → u ≤ e → v ≤ p + u → p ≤ v + u → (v ≤ p + e) × (p ≤ v + e)
-    within v u e a b c = omega arith
+    within : (vd cu u E : ℕ) → vd ≡ cu → u ≤ E → cu ≤ p + u → p ≤ cu + u → (vd ≤ p + E) × (p ≤ vd + E)
+    within vd cu u E a b c d = omega arith
 
-    room : (k : ℕ) → k ≤ 2044 → 54 + k ≤ 2098
-    room k l = omega arith
+    room : (K : ℕ) → K ≤ 2044 → 54 + K ≤ 2098
+    room K k = omega arith
 
-    below : (v : ℕ) → v ≤ p + 2 ^ k → v < 2 ^ (54 + k)
-    below v a = rw (pow-add 2 54 k) (go (2 ^ k) (rw (pow-add 2 53 k) at h) a)
+    under : (vd : ℕ) → vd ≤ p + D * 2 ^ K → vd < 2 ^ (54 + K) * D
+    under vd a = rw (pow-add 2 54 K) (go (2 ^ K) (rw (pow-add 2 53 K) at h) a)
       where
-        go : (z : ℕ) → p < 2 ^ 53 * z → v ≤ p + z → v < 2 ^ 54 * z
+        go : (z : ℕ) → p < 2 ^ 53 * z * D → vd ≤ p + D * z → vd < 2 ^ 54 * z * D
         go z b c = omega arith

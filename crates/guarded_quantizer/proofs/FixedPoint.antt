@@ -5,13 +5,13 @@
 use mathlib.Core.Path.{_≡_, refl, sym, ap, subst, _∙_}
 use mathlib.Core.Bool.{Bool, true, false, not, _&&_, true≢false}
 use Prim.Native.Nat.{ℕ, _+_, _-_, _*_, _/_, _%_, _^_, _≤_, _<_, min}
-use native.Mathlib.Nat.{le-refl, sub-le, add-lt-add-of-lt-of-le, le-of-eq, lt-of-lt-of-le, lt-of-le-of-lt, mul-right-comm, mul-lt-mul-of-pos-right, lt-of-mul-lt-mul-right}
+use native.Mathlib.Nat.{le-of-eq, le-of-lt, one-mul, lt-of-lt-of-le, lt-of-le-of-lt, mul-right-comm, mul-lt-mul-of-pos-right, lt-of-mul-lt-mul-right}
 use native.Mathlib.Omega.{arith}
 use borrow.Author.Tests.{ltb-true, leb-true}
-use lib.Dec.{T, leb, lit≤, lit<}
-use lib.IntN.{ℤ, pos, negsuc, negℤ, _-ℤ_}
+use lib.Dec.{T, leb, lit≤}
+use lib.IntN.{ℤ, pos, negsuc, negℤ, natAbs, _+ℤ_, _-ℤ_, pos-+ℤ-pos}
 use lib.Pow.{pow-pos}
-use lib.Ieee.{Float, nan, inf, fin, up, down, binary64, fits, isNan, neg, lt, ofBits, add, round}
+use lib.Ieee.{Float, nan, inf, fin, up, down, binary64, fits, isNan, neg, lt, ofBits, add}
 use lib.Ieee.Fits.{add-fits}
 use lib.Ieee.Exact.{HasValue}
 use Rattle.integers.proofs.Difference.{differences, dif-eq}
@@ -19,8 +19,7 @@ use Rattle.guarded_quantizer.specs.Binary64.{nearHalf, roundedToI16}
 use Rattle.guarded_quantizer.proofs.Fields.{no-nan, weight, negative, exponent, digits, finite}
 use Rattle.guarded_quantizer.proofs.NearHalf.{near-value}
 use Rattle.guarded_quantizer.proofs.Rounding.{saturated, rounded-value, below-end, above-end}
-use Rattle.guarded_quantizer.proofs.Error.{round-near}
-use Rattle.guarded_quantizer.proofs.Sum.{plus, exact-sum}
+use Rattle.guarded_quantizer.proofs.Operations.{valueOf, Worth, Rounded, add-step, above}
 use Rattle.guarded_quantizer.proofs.Clear.{settled-up, settled-down}
 use Rattle.guarded_quantizer.proofs.Digits.{finite-field, is-number, digits-value}
 
@@ -56,25 +55,27 @@ below-size (fin t m e) s a h l =
     go true k = omega (arith, ltb-true (m * up e * 1) (32767 * 1 * down e) (k .0))
     go false k = omega (arith, ltb-true (m * up e * 1) (32767 * 1 * down e) (k .1))
 
--- the sum and the exact one are at most 2 ^ 1058 units apart
-near-sum : (x : Float) (s : Bool) (a : ℕ) → HasValue x s a (2 ^ 1074) → a < 32767 * 2 ^ 1074 →
-    (v : ℕ) × HasValue (add binary64 x addend) false v (2 ^ 1074) × (v ≤ plus s a b + 2 ^ 1058) × (plus s a b ≤ v + 2 ^ 1058)
-near-sum nan s a h l = absurd h
-near-sum (inf t) s a h l = absurd h
-near-sum (fin t m e) s a h l =
-    let less : a < b = lt-of-lt-of-le l (lit≤ tt) in
-    let exact = exact-sum m e (2 ^ 37 + 65537) (negsuc 0) a b (h .1) refl t less ∙ ap (λ (t : Bool). round binary64 false (plus t a b) (2 ^ 1074)) (h .0) in
-    let near = round-near false (plus s a b) 1058 (most s) (lit≤ tt) in
-    (near .0, subst (λ (x : Float). HasValue x false (near .0) (2 ^ 1074)) (sym exact) (near .1), near .2, near .3)
-  where
-    most : (s : Bool) → plus s a b < 2 ^ 1111
-    most false = lt-of-lt-of-le (add-lt-add-of-lt-of-le l (le-refl b)) (lit≤ tt)
-    most true = lt-of-le-of-lt (sub-le b a) (lit< tt)
+-- a with the sign s, added to a larger number
+abbrev plus : Bool → ℕ → ℕ → ℕ
+plus false a b = a + b
+plus true a b = b - a
 
--- the same in units of g
+plus-is : (s : Bool) (a b : ℕ) → a ≤ b → valueOf s a +ℤ pos b ≡ pos (plus s a b)
+plus-is false a b h = pos-+ℤ-pos a b
+plus-is true a b h = simp differences (dif-eq _ _ _ _ (omega arith))
+
+-- in units of g
 module _ (g a v : ℕ) (l : a < 32767 * (65536 * g)) where
   abbrev c : ℕ
   c = (2 ^ 52 + 2 ^ 31 + 2 ^ 15) * g
+
+  some : (s : Bool) → 0 < g → g < plus s a c
+  some false p = omega arith
+  some true p = omega arith
+
+  below : (s : Bool) → 0 < g → plus s a c < 2 ^ 53 * g
+  below false p = omega arith
+  below true p = omega arith
 
   least : (s : Bool) → 0 < g → plus s a c ≤ v + g → 2 ^ 52 * g ≤ v
   least false p h = omega arith
@@ -93,6 +94,18 @@ module _ (g a v : ℕ) (l : a < 32767 * (65536 * g)) where
 
     digits-most : 0 < g → v < 2 ^ 52 * g + 2 ^ 32 * g → t < 2 ^ 32
     digits-most p h = lt-of-mul-lt-mul-right g (omega arith)
+
+-- the sum and the exact one are at most 2 ^ 1058 units apart
+near-sum : (x : Float) (s : Bool) (a : ℕ) → HasValue x s a (2 ^ 1074) → a < 32767 * 2 ^ 1074 →
+    (v : ℕ) × HasValue (add binary64 x addend) false v (2 ^ 1074) × (v ≤ plus s a b + 2 ^ 1058) × (plus s a b ≤ v + 2 ^ 1058)
+near-sum x s a h l =
+    let exact = plus-is s a b (le-of-lt (lt-of-lt-of-le l (lit≤ tt))) in
+    let size : natAbs (valueOf s a +ℤ pos b) < 2 ^ 53 * (1 * 2 ^ 1058) = subst (λ (z : ℤ). natAbs z < 2 ^ 53 * (1 * 2 ^ 1058)) (sym exact) (below (2 ^ 1058) a 0 l s (pow-pos 1058)) in
+    let first : Worth x (valueOf s a) = record { sign = s; size = a; value = h; is = refl } in
+    let second : Worth addend (pos b) = record { sign = false; size = b; value = (refl, refl); is = refl } in
+    let sum = add-step 1058 (lit≤ tt) first second size in
+    let v = above (some (2 ^ 1058) a 0 l s (pow-pos 1058)) (subst (λ (z : ℤ). Rounded (add binary64 x addend) z 1 1058) exact sum) in
+    (v .size, v .value, subst (λ (k : ℕ). k ≤ plus s a b + 2 ^ 1058) (one-mul (v .size)) (v .most), subst (λ (k : ℕ). plus s a b ≤ k + 2 ^ 1058) (one-mul (v .size)) (v .least))
 
 difference-up : (w n k : ℕ) → w ≡ n + k → pos n ≡ pos w -ℤ pos k
 difference-up w n k e = simp differences (dif-eq _ _ _ _ (omega arith))

@@ -7,7 +7,7 @@ pub mod Fields
 pub mod NearHalf
 pub mod Rounding
 pub mod Error
-pub mod Sum
+pub mod Operations
 pub mod Clear
 pub mod Digits
 pub mod FixedPoint

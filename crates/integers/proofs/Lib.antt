@@ -1,6 +1,7 @@
 pub mod Difference
 pub mod Order
 pub mod Ring
+pub mod Distance
 pub mod Congruence
 pub mod Wrap
 pub mod Floor

@@ -1,8 +1,9 @@
 -- What the functions that hand an answer on to lent places return and leave, as their contracts state it. Assumes nothing.
 use mathlib.Core.Path.{_≡_, refl, sym, ap, _∙_}
-use mathlib.Core.Bool.{Bool, true, false, cond}
+use mathlib.Core.Bool.{Bool, true, false}
 use mathlib.Core.List.{List, [], _∷_, _++_}
 use Prim.Native.Nat.{ℕ}
+use native.Mathlib.Decide.{ℕ-discrete}
 use native.Mathlib.Omega.{arith}
 use borrow.Author.Tests.{eqb-true}
 use lib.Dec.{T}
@@ -14,13 +15,15 @@ use Rattle.lists.specs.Tab.{tab}
 use Rattle.lists.proofs.Tab.{length-tab, tab-getD}
 use Rattle.refusals.specs.Refusals.{Test, _unless_, _of_, status, written}
 use Rattle.refusals.proofs.Refusals.{has, lacks, _then_, failed, passed, kept, wrote, numbered, after, passed-all, none-after, either}
+use Rattle.forward.specs.Canonical.{canonical}
 use Rattle.guarded_quantizer.specs.declared.MadeDivisors.{MadeDivisors}
 use Rattle.guarded_quantizer.specs.declared.QuantizedBlock.{QuantizedBlock}
 use Rattle.guarded_quantizer.specs.declared.Quantized.{Quantized}
 use Rattle.guarded_quantizer.specs.Divisors.{reciprocals, tableTests, zeroDivisors, divisorsAnswer}
 use Rattle.guarded_quantizer.specs.Record.{acPlaces, recordOf}
 use Rattle.guarded_quantizer.specs.Answer.{coefficientsOf, guardedTests, zeroRecord, guardedAnswer}
-use Rattle.jpeg_block.specs.Places.{placeTests, flag, recordTests, handed}
+use Rattle.agreement.specs.Agreement.{canonicalAnswer}
+use Rattle.jpeg_block.specs.Places.{placeTests, flag, recordPlaceTests, recordTests, handed}
 
 pub as-flag : (yes : Bool) → boolByte yes ≡ flag yes
 unfolding flag
@@ -93,58 +96,82 @@ lengths number n d a b q h e =
     let all = passed-all (recordTests n d a b q) tt (none-after number _ (sym h ∙ e)) in
     (eqb-true _ _ (all .0), eqb-true _ _ (all .1 .0), eqb-true _ _ (all .1 .1 .0), eqb-true _ _ (all .1 .1 .1 .0), eqb-true _ _ (all .1 .1 .1 .1 .0))
 
-length-ac : (block quant : List ℕ) (rs : List Float) → length (guardedAnswer block quant rs .block .«ac_coefficients») ≡ 64
-unfolding guardedAnswer recordOf acPlaces zeroRecord
-length-ac block quant rs = either (λ (r : QuantizedBlock). length (r .«ac_coefficients») ≡ 64) (status (guardedTests block quant)) (recordOf quant (coefficientsOf block quant rs)) zeroRecord (length-tab 64 _) (length-tab 64 _)
+-- a record, or zeros where the entry refused
+module _ (quant : List ℕ) (f : ℕ → ℤ) (s : ℕ) where
+  length-ac : length (written s (recordOf quant f) zeroRecord .«ac_coefficients») ≡ 64
+  unfolding recordOf acPlaces zeroRecord
+  length-ac = either (λ (r : QuantizedBlock). length (r .«ac_coefficients») ≡ 64) s (recordOf quant f) zeroRecord (length-tab 64 _) (length-tab 64 _)
 
-length-divisors : (block quant : List ℕ) (rs : List Float) → length quant ≡ 64 → length (guardedAnswer block quant rs .block .divisors) ≡ 64
-unfolding guardedAnswer recordOf zeroRecord
-length-divisors block quant rs h = either (λ (r : QuantizedBlock). length (r .divisors) ≡ 64) (status (guardedTests block quant)) (recordOf quant (coefficientsOf block quant rs)) zeroRecord h (length-tab 64 _)
+  length-divisors : length quant ≡ 64 → length (written s (recordOf quant f) zeroRecord .divisors) ≡ 64
+  unfolding recordOf zeroRecord
+  length-divisors h = either (λ (r : QuantizedBlock). length (r .divisors) ≡ 64) s (recordOf quant f) zeroRecord h (length-tab 64 _)
 
-module _ (block quant : List ℕ) (rs : List Float) (dc ac : List ℤ) (bitmap divisors : List ℕ) {s : ℕ} {ds : List Float} (result : Quantized)
-    (called : result ≡ guardedAnswer block quant ds) (by-value : ds ≡ handed rs)
-    (tested : s ≡ written (result .status) (status (recordTests (length rs) (length dc) (length ac) (length bitmap) (length divisors))) (result .status)) where
-  abbrev tests : List Test
-  tests = guardedTests block quant ++ recordTests (length rs) (length dc) (length ac) (length bitmap) (length divisors)
+-- what `put_record` leaves of an answer, with the tests us of the lengths
+abbrev Put : Quantized → List Test → List ℤ → List ℤ → List ℕ → List ℕ → ℕ → List ℤ → List ℤ → List ℕ → List ℕ → Type 0
+Put answer us dc ac bitmap divisors r d a b q =
+    (r ≡ written (answer .status) (status us) (answer .status)) × ((d ≡ written r (answer .block .dc ∷ []) dc)
+    × ((a ≡ written r (tab 64 (λ z. getD (answer .block .«ac_coefficients») z (pos 0))) ac)
+    × ((b ≡ written r (answer .block .«nonzero_ac» ∷ []) bitmap) × (q ≡ written r (tab 64 (λ n. getD (answer .block .divisors) n 0)) divisors))))
 
-  abbrev answer : QuantizedBlock
-  answer = guardedAnswer block quant rs .block
+module _ (answer : Quantized) (us : List Test) (dc ac : List ℤ) (bitmap divisors : List ℕ) {s : ℕ} (tested : s ≡ written (answer .status) (status us) (answer .status)) where
+  pub put-refused : (s ≡ 0 → ⊥) → Put answer us dc ac bitmap divisors s dc ac bitmap divisors
+  put-refused h = (tested, (kept _ dc h, (kept _ ac h, (kept _ bitmap h, kept _ divisors h))))
 
+  pub put-stored : s ≡ 0 → length dc ≡ 1 → length bitmap ≡ 1 → {x : ℤ} {y : List ℤ} {z : List ℕ} → x ≡ answer .block .dc → y ≡ tab 64 (λ z. getD (answer .block .«ac_coefficients») z (pos 0)) →
+      z ≡ tab 64 (λ n. getD (answer .block .divisors) n 0) → Put answer us dc ac bitmap divisors 0 (set dc 0 x) y (set bitmap 0 (answer .block .«nonzero_ac»)) z
+  put-stored e one-dc one-bitmap {x} first all table =
+      (sym e ∙ tested, (wrote _ dc refl (set-only dc x one-dc ∙ ap (λ v. v ∷ []) first), (wrote _ ac refl all, (wrote _ bitmap refl (set-only bitmap _ one-bitmap), wrote _ divisors refl table))))
+
+by-zero : {A : Type 0} (r : ℕ) {v w : A} (held : A) → (r ≡ 0 → v ≡ w) → written r v held ≡ written r w held
+by-zero r {v} {w} held f = go (ℕ-discrete r 0)
+  where
+    go : Dec (r ≡ 0) → written r v held ≡ written r w held
+    go (yes z) = ap (λ x. written r x held) (f z)
+    go (no h) = sym (kept v held h) ∙ kept w held h
+
+-- so of an entry with the refusals of the guarded quantizer: `answer` is what its contract says, and the result has its record where nothing is refused
+module _ (block quant : List ℕ) (us : List Test) (answer : Quantized) (dc ac : List ℤ) (bitmap divisors : List ℕ) where
   abbrev Recorded : ℕ → List ℤ → List ℤ → List ℕ → List ℕ → Type 0
   Recorded r d a b q =
-      (r ≡ status tests) × ((d ≡ written r (answer .dc ∷ []) dc) × ((a ≡ written r (answer .«ac_coefficients») ac)
-      × ((b ≡ written r (answer .«nonzero_ac» ∷ []) bitmap) × (q ≡ written r (answer .divisors) divisors))))
+      (r ≡ status (guardedTests block quant ++ us)) × ((d ≡ written r (answer .block .dc ∷ []) dc) × ((a ≡ written r (answer .block .«ac_coefficients») ac)
+      × ((b ≡ written r (answer .block .«nonzero_ac» ∷ []) bitmap) × (q ≡ written r (answer .block .divisors) divisors))))
 
-  by-tests : s ≡ status tests
-  unfolding guardedAnswer
-  by-tests = after (guardedTests block quant) _ tt (ap (λ (r : Quantized). r .status) called) tested
-
-  pub record-refused : (s ≡ 0 → ⊥) → Recorded s dc ac bitmap divisors
-  record-refused h = (by-tests, (kept _ dc h, (kept _ ac h, (kept _ bitmap h, kept _ divisors h))))
-
-  module _ (e : s ≡ 0) where
-    long : (length rs ≡ 64) × (length dc ≡ 1) × (length ac ≡ 64) × (length bitmap ≡ 1) × (length divisors ≡ 64)
-    long = lengths _ _ _ _ _ _ tested e
-
-    table-long : length quant ≡ 64
-    unfolding recordTests
-    table-long = eqb-true _ _ (passed-all tests tt (sym by-tests ∙ e) .1 .0)
-
-    same : result .block ≡ answer
-    same = ap (λ (r : Quantized). r .block) (called ∙ ap (guardedAnswer block quant) (by-value ∙ sym (handed-all rs (long .0)) ∙ tab-getD nan rs 64 (long .0)))
-
-    pub record-stored : {x : ℤ} {y : List ℤ} {z : List ℕ} → x ≡ result .block .dc → y ≡ tab 64 (λ z. getD (result .block .«ac_coefficients») z (pos 0)) →
-        z ≡ tab 64 (λ n. getD (result .block .divisors) n 0) → Recorded 0 (set dc 0 x) y (set bitmap 0 (result .block .«nonzero_ac»)) z
-    record-stored {x} first all table = (
-      sym e ∙ by-tests,
-      (
-        wrote _ dc refl (set-only dc x (long .1) ∙ ap (λ v. v ∷ []) (first ∙ ap (λ (r : QuantizedBlock). r .dc) same)),
+  recorded : {r : ℕ} {d a : List ℤ} {b q : List ℕ} (result : Quantized) → result .status ≡ status (guardedTests block quant) → T (numbered us) →
+      length (answer .block .«ac_coefficients») ≡ 64 → (length quant ≡ 64 → length (answer .block .divisors) ≡ 64) → (r ≡ 0 → result .block ≡ answer .block) →
+      Put result us dc ac bitmap divisors r d a b q → Recorded r d a b q
+  recorded {r} result number n long-ac long-divisors same (tested, (d, (a, (b, q)))) =
+      let by-tests = after (guardedTests block quant) us tt number tested in
+      let part : r ≡ 0 → tab 64 (λ n. getD (result .block .divisors) n 0) ≡ answer .block .divisors =
+      λ z. ap (λ (x : QuantizedBlock). tab 64 (λ n. getD (x .divisors) n 0)) (same z) ∙ tab-getD 0 _ 64 (long-divisors (eqb-true _ _ (passed-all (guardedTests block quant ++ us) n (sym by-tests ∙ z) .1 .0))) in (
+        by-tests,
         (
-          wrote _ ac refl (all ∙ ap (λ (r : QuantizedBlock). tab 64 (λ z. getD (r .«ac_coefficients») z (pos 0))) same ∙ tab-getD (pos 0) _ 64 (length-ac block quant rs)),
+          d ∙ by-zero r dc (λ z. ap (λ (x : QuantizedBlock). x .dc ∷ []) (same z)),
           (
-            wrote _ bitmap refl (set-only bitmap _ (long .3) ∙ ap (λ (r : QuantizedBlock). r .«nonzero_ac» ∷ []) same),
-            wrote _ divisors refl (table ∙ ap (λ (r : QuantizedBlock). tab 64 (λ n. getD (r .divisors) n 0)) same ∙ tab-getD 0 _ 64 (length-divisors block quant rs table-long)),
+            a ∙ by-zero r ac (λ z. ap (λ (x : QuantizedBlock). tab 64 (λ z. getD (x .«ac_coefficients») z (pos 0))) (same z) ∙ tab-getD (pos 0) _ 64 long-ac),
+            (b ∙ by-zero r bitmap (λ z. ap (λ (x : QuantizedBlock). x .«nonzero_ac» ∷ []) (same z)), q ∙ by-zero r divisors part),
           ),
         ),
-      ),
-    )
+      )
+
+-- the guarded entry's, with the reciprocals rs handed over
+pub guarded-recorded : (block quant : List ℕ) (rs ds : List Float) (dc ac : List ℤ) (bitmap divisors : List ℕ) {r : ℕ} {d a : List ℤ} {b q : List ℕ} (result : Quantized) → result ≡ guardedAnswer block quant ds → ds ≡ handed rs →
+    Put result (recordTests (length rs) (length dc) (length ac) (length bitmap) (length divisors)) dc ac bitmap divisors r d a b q →
+    Recorded block quant (recordTests (length rs) (length dc) (length ac) (length bitmap) (length divisors)) (guardedAnswer block quant rs) dc ac bitmap divisors r d a b q
+unfolding recordTests guardedAnswer
+guarded-recorded block quant rs ds dc ac bitmap divisors {r} result called by-value put =
+    recorded block quant (recordTests (length rs) (length dc) (length ac) (length bitmap) (length divisors)) (guardedAnswer block quant rs) dc ac bitmap divisors result (ap (λ (x : Quantized). x .status) called) tt
+    (length-ac quant (coefficientsOf block quant rs) _) (length-divisors quant (coefficientsOf block quant rs) _) same put
+  where
+    same : r ≡ 0 → result .block ≡ guardedAnswer block quant rs .block
+    same z =
+        let long = lengths (result .status) (length rs) (length dc) (length ac) (length bitmap) (length divisors) (put .0) z .0 in
+        ap (λ (x : Quantized). x .block) (called ∙ ap (guardedAnswer block quant) (by-value ∙ sym (handed-all rs long) ∙ tab-getD nan rs 64 long))
+
+-- that of the canonical coefficients: its places are tested as the guarded entry's with 64 reciprocals
+pub canonical-recorded : (block quant : List ℕ) (dc ac : List ℤ) (bitmap divisors : List ℕ) {r : ℕ} {d a : List ℤ} {b q : List ℕ} (result : Quantized) → result ≡ canonicalAnswer block quant →
+    Put result (recordTests 64 (length dc) (length ac) (length bitmap) (length divisors)) dc ac bitmap divisors r d a b q →
+    Recorded block quant (recordPlaceTests (length dc) (length ac) (length bitmap) (length divisors)) (canonicalAnswer block quant) dc ac bitmap divisors r d a b q
+unfolding recordTests status canonicalAnswer
+canonical-recorded block quant dc ac bitmap divisors result called put =
+    recorded block quant (recordPlaceTests (length dc) (length ac) (length bitmap) (length divisors)) (canonicalAnswer block quant) dc ac bitmap divisors result (ap (λ (x : Quantized). x .status) called) tt
+    (length-ac quant (canonical block quant) _) (length-divisors quant (canonical block quant) _) (λ z. ap (λ (x : Quantized). x .block) called) put

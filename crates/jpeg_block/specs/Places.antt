@@ -19,10 +19,13 @@ placeTests place = 3 unless place of 1 ∷ []
 unfoldable pub flag : Bool → ℕ
 flag answer = cond answer 1 0
 
--- the guarded quantizer, by the lengths: 2, divisors not of 64; 3, a place of the wrong length
+-- the places of a record, by the lengths: 3, one of the wrong length
+abbrev pub recordPlaceTests : ℕ → ℕ → ℕ → ℕ → List Test
+recordPlaceTests dc ac bitmap divisors = 3 unless eqb dc 1 ∷ 3 unless eqb ac 64 ∷ 3 unless eqb bitmap 1 ∷ 3 unless eqb divisors 64 ∷ []
+
+-- the guarded quantizer, by the lengths: 2, divisors not of 64; then those
 unfoldable pub recordTests : ℕ → ℕ → ℕ → ℕ → ℕ → List Test
-recordTests reciprocals dc ac bitmap divisors =
-    2 unless eqb reciprocals 64 ∷ 3 unless eqb dc 1 ∷ 3 unless eqb ac 64 ∷ 3 unless eqb bitmap 1 ∷ 3 unless eqb divisors 64 ∷ []
+recordTests reciprocals dc ac bitmap divisors = 2 unless eqb reciprocals 64 ∷ recordPlaceTests dc ac bitmap divisors
 
 -- two records handed over, by the lengths: 1, AC places not of 64, of either; 2, divisors not of 64, of either
 abbrev pub handedTests : List ℤ → List ℕ → List ℤ → List ℕ → List Test

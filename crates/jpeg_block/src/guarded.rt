@@ -11,6 +11,7 @@ ghost use Rattle.guarded_quantizer.specs.Answer.{guardedTests, guardedAnswer};
 ghost use Rattle.jpeg_block.specs.Places.{recordTests, handed};
 use fdct_f64::quantization_divisors;
 use guarded_quantizer::QuantizationDivisors;
+use guarded_quantizer::Quantized;
 use transform::fdct_quantize;
 
 fn put_reciprocals(from: &[f64; 64], to: &mut [f64])
@@ -118,6 +119,40 @@ fn put_divisors(from: &[u8; 64], to: &mut [u8])
     }
 }
 
+// The parts of an answer's record into lent places, by its status and by the lengths, also that of the reciprocals handed over.
+pub fn put_record(
+    answer: Quantized,
+    reciprocals: usize,
+    dc: &mut [i16],
+    ac: &mut [i16],
+    nonzero_ac: &mut [u64],
+    record_divisors: &mut [u8],
+) -> u32
+    ensures { λ r. ⌜ r ≡ written (answer .status) (status (recordTests reciprocals (length (now (dc .entry))) (length (now (ac .entry))) (length (now («nonzero_ac» .entry))) (length (now («record_divisors» .entry))))) (answer .status) ⌝ }
+    ensures { λ r. ⌜ now (dc .exit) ≡ written r (answer .block .dc ∷ []) (now (dc .entry)) ⌝ }
+    ensures { λ r. ⌜ now (ac .exit) ≡ written r (tab 64 (λ z. getD (answer .block .«ac_coefficients») z (pos 0))) (now (ac .entry)) ⌝ }
+    ensures { λ r. ⌜ now («nonzero_ac» .exit) ≡ written r (answer .block .«nonzero_ac» ∷ []) (now («nonzero_ac» .entry)) ⌝ }
+    ensures { λ r. ⌜ now («record_divisors» .exit) ≡ written r (tab 64 (λ n. getD (answer .block .divisors) n 0)) (now («record_divisors» .entry)) ⌝ }
+{
+    let status = record_status(
+        answer.status,
+        reciprocals,
+        dc.len(),
+        ac.len(),
+        nonzero_ac.len(),
+        record_divisors.len(),
+    );
+    if status != 0 {
+        return status;
+    }
+    let record = answer.block;
+    dc[0] = record.dc;
+    put_ac(&record.ac_coefficients, ac);
+    put_divisors(&record.divisors, record_divisors);
+    nonzero_ac[0] = record.nonzero_ac;
+    0
+}
+
 // `transform::fdct_quantize`: refusals 1, 2 and 5, then 2 for the divisors and 3 for a place. The divisors are used as handed over,
 // whatever they hold; the record's are those of the table.
 #[no_mangle]
@@ -137,21 +172,5 @@ pub extern "C" fn jpeg_block_fdct_quantize_guarded(
     ensures { λ r. ⌜ now («record_divisors» .exit) ≡ written r (guardedAnswer (now (block .entry)) (now (quant .entry)) (now (divisors .entry)) .block .divisors) (now («record_divisors» .entry)) ⌝ }
 {
     let answer = fdct_quantize(block, quant, by_value(divisors));
-    let status = record_status(
-        answer.status,
-        divisors.len(),
-        dc.len(),
-        ac.len(),
-        nonzero_ac.len(),
-        record_divisors.len(),
-    );
-    if status != 0 {
-        return status;
-    }
-    let record = answer.block;
-    dc[0] = record.dc;
-    put_ac(&record.ac_coefficients, ac);
-    put_divisors(&record.divisors, record_divisors);
-    nonzero_ac[0] = record.nonzero_ac;
-    0
+    put_record(answer, divisors.len(), dc, ac, nonzero_ac, record_divisors)
 }

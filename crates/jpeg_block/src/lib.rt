@@ -5,6 +5,7 @@
 // "Refusing calls"), and then every buffer is as it was. A slice is a pointer and a length to C.
 mod canonical;
 mod canonical_12bit;
+mod canonical_record;
 mod guarded;
 mod inverse;
 mod inverse_i32;

@@ -2,11 +2,11 @@
 use mathlib.Core.Path.{_≡_, refl, ap, _∙_}
 use mathlib.Core.List.{List, map}
 use Prim.Native.Nat.{ℕ}
-use lib.ListN.{getD, replicate}
+use lib.ListN.{getD, replicate, getD-replicate}
 use lib.IntN.{ℤ, pos, _-ℤ_, _*ℤ_}
 use Rattle.lists.specs.Tab.{tab}
 use Rattle.lists.proofs.Tab.{tab-ext}
-use Rattle.orthogonality.proofs.Equal.{basisSums, equal-sum}
+use Rattle.forward.proofs.Equal.{basisSums, equal-sum}
 use Rattle.quantize.specs.Quantize.{divisorOf, rounded, withSign, coefficient}
 use Rattle.forward.specs.Canonical.{canonicalAt, coefficientsAt, coefficients}
 use Rattle.integers.specs.Wrap.{modulo, wrap}
@@ -24,7 +24,7 @@ equal sample quantizer = tab 64 (λ n. coefficient ((pos sample -ℤ pos 128) *�
 
 pub equal-coefficients : (sample quantizer : ℕ) → coefficients (replicate 64 sample) (replicate 64 quantizer) ≡ equal sample quantizer
 unfolding equal coefficientsAt canonicalAt
-equal-coefficients sample quantizer = tab-ext 64 _ _ (λ n h. ap (λ (S : ℤ). coefficient S (getD (replicate 64 quantizer) n 0)) (equal-sum 128 sample n h))
+equal-coefficients sample quantizer = tab-ext 64 _ _ (λ n h. ap (λ (S : ℤ). coefficient S (getD (replicate 64 quantizer) n 0)) (equal-sum 128 sample n h (replicate 64 sample) (λ i b. getD-replicate 64 i sample 0 b)))
 
 -- what a case gives, said so
 computed : Case → List ℤ

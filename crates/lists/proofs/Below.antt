@@ -1,4 +1,4 @@
--- A test at every number below a bound, and the fact at each.
+-- A test at every number below a bound, and the fact at each; facts at the eight numbers below 8.
 -- Assumes nothing.
 use mathlib.Core.Path.{_≡_, refl, sym, ap, subst, _∙_}
 use mathlib.Core.Bool.{Bool, true, _&&_}
@@ -42,3 +42,18 @@ below-next f n d e = (λ i. d i && e i) ∙ ap (λ (m : ℕ). below m f) (sym (a
 -- and where the loop ends
 pub below-all : (f : ℕ → Bool) (n m : ℕ) {s : Bool} → s ≡ below n f → n ≡ m → s ≡ below m f
 below-all f n m e h = e ∙ ap (λ (k : ℕ). below k f) h
+
+-- a fact at each of the numbers below 8, one by one
+pub each-8 : (P : ℕ → Type 0) → P 0 → P 1 → P 2 → P 3 → P 4 → P 5 → P 6 → P 7 → (i : ℕ) → i < 8 → P i
+each-8 P p0 p1 p2 p3 p4 p5 p6 p7 zero h = p0
+each-8 P p0 p1 p2 p3 p4 p5 p6 p7 (suc zero) h = p1
+each-8 P p0 p1 p2 p3 p4 p5 p6 p7 (suc (suc zero)) h = p2
+each-8 P p0 p1 p2 p3 p4 p5 p6 p7 (suc (suc (suc zero))) h = p3
+each-8 P p0 p1 p2 p3 p4 p5 p6 p7 (suc (suc (suc (suc zero)))) h = p4
+each-8 P p0 p1 p2 p3 p4 p5 p6 p7 (suc (suc (suc (suc (suc zero))))) h = p5
+each-8 P p0 p1 p2 p3 p4 p5 p6 p7 (suc (suc (suc (suc (suc (suc zero)))))) h = p6
+each-8 P p0 p1 p2 p3 p4 p5 p6 p7 (suc (suc (suc (suc (suc (suc (suc zero))))))) h = p7
+each-8 P p0 p1 p2 p3 p4 p5 p6 p7 (suc (suc (suc (suc (suc (suc (suc (suc i)))))))) h = absurd (past i h)
+  where
+    past : (i : ℕ) → suc (suc (suc (suc (suc (suc (suc (suc i))))))) < 8 → ⊥
+    past i h = omega arith

@@ -2,5 +2,4 @@ pub mod Orthogonal
 pub mod Basis
 pub mod Rounding
 pub mod Reconstruction
-pub mod Equal
 pub mod Energy

@@ -3,7 +3,7 @@
 // After the refusals a block of equal samples goes its own way (`constant`); of any other, the guarded coefficients (`guarded`: the
 // values of crate fdct_f64 times the reciprocals, rounded from their bits, `binary64`) are laid out as one record (`record`), with the
 // table's divisors. Two records are compared in `same`.
-mod binary64;
+pub mod binary64;
 mod constant;
 mod guarded;
 mod record;

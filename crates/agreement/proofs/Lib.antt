@@ -1,0 +1,11 @@
+pub mod Apart
+pub mod Form
+pub mod Pass
+pub mod Scale
+pub mod Products
+pub mod Values
+pub mod Reciprocal
+pub mod Quotient
+pub mod Guard
+pub mod Agreement
+pub mod Answer

@@ -1,0 +1,3 @@
+pub mod Agreement
+pub mod Exact
+pub mod Budget
