@@ -50,13 +50,13 @@ static int untouched(const void *from, size_t size)
         expect(untouched(output + (n), (65 - (n) + GUARD) * sizeof *buffer), name, "wrote after the output"); \
     } while (0)
 
-/* One entry: n samples, all `sample` for the coefficient `value` at `place`. */
-#define INVERSE(entry, In, Out, n, place, value, sample) \
+/* One entry of 12 bits: n samples, all `sample` for the coefficient `value` at `place`. */
+#define INVERSE_12BIT(entry, n, place, value, sample) \
     do { \
         static const char name[] = #entry; \
-        In input[65] = {0}; \
+        int16_t input[65] = {0}; \
         int i; \
-        OUTPUT(Out); \
+        OUTPUT(uint16_t); \
         input[place] = (value); \
         REFUSED(name, entry(input, 63, output, n), 1); \
         REFUSED(name, entry(input, 65, output, n), 1); \
@@ -75,25 +75,89 @@ static int untouched(const void *from, size_t size)
         WROTE(name, n); \
     } while (0)
 
+/* The counts of an 8-bit inverse, with places around them. */
+#define COUNTS \
+    uint32_t held[GUARD + 3 + GUARD]; \
+    uint32_t *const counts = held + GUARD; \
+    memset(held, FILL, sizeof held)
+
+#define REFUSED_COUNTS(name, call, number) \
+    do { \
+        REFUSED(name, call, number); \
+        expect(untouched(held, sizeof held), name, #call " wrote counts"); \
+    } while (0)
+
+/* after a call that wrote them */
+#define COUNTED(name, raised, lowered) \
+    do { \
+        expect(counts[0] == (raised), name, "does not raise " #raised); \
+        expect(counts[1] == (lowered), name, "does not lower " #lowered); \
+        expect(untouched(held, GUARD * sizeof *held), name, "wrote before the counts"); \
+        expect(untouched(counts + 2, (1 + GUARD) * sizeof *held), name, "wrote after the counts"); \
+    } while (0)
+
+/* One entry of 8 bits: n samples, all `sample` for the coefficient `value` at `place`, and its counts. */
+#define INVERSE(entry, In, n, place, value, sample, raised, lowered) \
+    do { \
+        static const char name[] = #entry; \
+        In input[65] = {0}; \
+        int i; \
+        OUTPUT(uint8_t); \
+        COUNTS; \
+        input[place] = (value); \
+        REFUSED_COUNTS(name, entry(input, 63, output, n, counts, 2), 1); \
+        REFUSED_COUNTS(name, entry(input, 65, output, n, NULL, 0), 1); \
+        REFUSED_COUNTS(name, entry(input, 0, output, n, counts, 3), 1); \
+        REFUSED_COUNTS(name, entry(NULL, 0, output, n, counts, 2), 1); \
+        REFUSED_COUNTS(name, entry(input, 63, output, (n) - 1, counts, 1), 1); \
+        REFUSED_COUNTS(name, entry(NULL, 0, NULL, 0, NULL, 0), 1); \
+        REFUSED_COUNTS(name, entry(input, 64, output, (n) - 1, counts, 2), 3); \
+        REFUSED_COUNTS(name, entry(input, 64, output, (n) + 1, NULL, 0), 3); \
+        REFUSED_COUNTS(name, entry(input, 64, output, 0, counts, 2), 3); \
+        REFUSED_COUNTS(name, entry(input, 64, NULL, 0, counts, 2), 3); \
+        REFUSED_COUNTS(name, entry(input, 64, output, n, counts, 1), 3); \
+        REFUSED_COUNTS(name, entry(input, 64, output, n, counts, 3), 3); \
+        expect(entry(input, 64, output, n, NULL, 0) == 0, name, "is refused without counts"); \
+        for (i = 0; i < (n); i++) { \
+            expect(output[i] == (sample), name, #value " at " #place " does not give " #sample); \
+        } \
+        WROTE(name, n); \
+        expect(entry(input, 64, output, n, counts, 2) == 0, name, "is refused"); \
+        for (i = 0; i < (n); i++) { \
+            expect(output[i] == (sample), name, #value " at " #place " does not give " #sample); \
+        } \
+        WROTE(name, n); \
+        COUNTED(name, raised, lowered); \
+    } while (0)
+
+/* DC 1016 gives 255 and -1024 gives 0, both without a clamp. */
 static void inverse_blocks(void)
 {
-    INVERSE(jpeg_block_islow_block, int16_t, uint8_t, 64, 0, 4, 129);
-    INVERSE(jpeg_block_islow_block, int16_t, uint8_t, 64, 0, 3, 128);
-    INVERSE(jpeg_block_islow_block, int16_t, uint8_t, 64, 0, -4, 128);
-    INVERSE(jpeg_block_islow_block, int16_t, uint8_t, 64, 0, -5, 127);
-    INVERSE(jpeg_block_islow_block_i32, int32_t, uint8_t, 64, 0, 4, 129);
-    INVERSE(jpeg_block_islow_block_i32, int32_t, uint8_t, 64, 0, 65536, 255);
-    INVERSE(jpeg_block_islow_block_top_half, int16_t, uint8_t, 64, 0, 4, 129);
-    INVERSE(jpeg_block_islow_block_top_half, int16_t, uint8_t, 64, 32, 1000, 128);
-    INVERSE(jpeg_block_islow_block_top_half_i32, int32_t, uint8_t, 64, 0, 65536, 255);
-    INVERSE(jpeg_block_islow_block_top_half_i32, int32_t, uint8_t, 64, 32, 1000, 128);
-    INVERSE(jpeg_block_islow_block_4x4, int16_t, uint8_t, 16, 0, 4, 129);
-    INVERSE(jpeg_block_islow_block_4x4, int16_t, uint8_t, 16, 4, 1000, 128);
-    INVERSE(jpeg_block_islow_block_2x2, int16_t, uint8_t, 4, 0, 4, 129);
-    INVERSE(jpeg_block_islow_block_2x2, int16_t, uint8_t, 4, 2, 1000, 128);
-    INVERSE(jpeg_block_islow_block_12bit, int16_t, uint16_t, 64, 0, 8, 2049);
-    INVERSE(jpeg_block_islow_block_12bit_4x4, int16_t, uint16_t, 16, 0, 8, 2049);
-    INVERSE(jpeg_block_islow_block_12bit_2x2, int16_t, uint16_t, 4, 0, 8, 2049);
+    INVERSE(jpeg_block_islow_block, int16_t, 64, 0, 4, 129, 0, 0);
+    INVERSE(jpeg_block_islow_block, int16_t, 64, 0, 3, 128, 0, 0);
+    INVERSE(jpeg_block_islow_block, int16_t, 64, 0, -4, 128, 0, 0);
+    INVERSE(jpeg_block_islow_block, int16_t, 64, 0, -5, 127, 0, 0);
+    INVERSE(jpeg_block_islow_block, int16_t, 64, 0, 1016, 255, 0, 0);
+    INVERSE(jpeg_block_islow_block, int16_t, 64, 0, 1020, 255, 0, 64);
+    INVERSE(jpeg_block_islow_block, int16_t, 64, 0, -1024, 0, 0, 0);
+    INVERSE(jpeg_block_islow_block, int16_t, 64, 0, -1029, 0, 64, 0);
+    INVERSE(jpeg_block_islow_block_i32, int32_t, 64, 0, 4, 129, 0, 0);
+    INVERSE(jpeg_block_islow_block_i32, int32_t, 64, 0, 65536, 255, 0, 64);
+    INVERSE(jpeg_block_islow_block_i32, int32_t, 64, 0, -65536, 0, 64, 0);
+    INVERSE(jpeg_block_islow_block_top_half, int16_t, 64, 0, 4, 129, 0, 0);
+    INVERSE(jpeg_block_islow_block_top_half, int16_t, 64, 0, -1029, 0, 64, 0);
+    INVERSE(jpeg_block_islow_block_top_half, int16_t, 64, 32, 1000, 128, 0, 0);
+    INVERSE(jpeg_block_islow_block_top_half_i32, int32_t, 64, 0, 65536, 255, 0, 64);
+    INVERSE(jpeg_block_islow_block_top_half_i32, int32_t, 64, 32, 1000, 128, 0, 0);
+    INVERSE(jpeg_block_islow_block_4x4, int16_t, 16, 0, 4, 129, 0, 0);
+    INVERSE(jpeg_block_islow_block_4x4, int16_t, 16, 0, 1020, 255, 0, 16);
+    INVERSE(jpeg_block_islow_block_4x4, int16_t, 16, 4, 1000, 128, 0, 0);
+    INVERSE(jpeg_block_islow_block_2x2, int16_t, 4, 0, 4, 129, 0, 0);
+    INVERSE(jpeg_block_islow_block_2x2, int16_t, 4, 0, -1029, 0, 4, 0);
+    INVERSE(jpeg_block_islow_block_2x2, int16_t, 4, 2, 1000, 128, 0, 0);
+    INVERSE_12BIT(jpeg_block_islow_block_12bit, 64, 0, 8, 2049);
+    INVERSE_12BIT(jpeg_block_islow_block_12bit_4x4, 16, 0, 8, 2049);
+    INVERSE_12BIT(jpeg_block_islow_block_12bit_2x2, 4, 0, 8, 2049);
 }
 
 /* All samples and all quantizers equal: DC as given, the rest 0. */
@@ -191,41 +255,53 @@ static void plane(void)
     expect(untouched(output + 128, (1 + GUARD) * sizeof *buffer), name, "wrote after the output");
 }
 
-/* A plane of 9 x 1 back, at w x 1 samples: DC 4 of the first block, 1 of the second, under quantizers 8. Then the refusals in order. */
-#define INVERSE_PLANE(entry, w) \
+/* A plane of 9 x 1 back, at w x 1 samples: DC 4 of the first block, 1 of the second, under quantizers 8. Then the refusals in order. Then DC
+ * that raises the n samples of the first block and lowers those of the second, most of which lie beyond the edge. */
+#define INVERSE_PLANE(entry, w, n) \
     do { \
         static const char name[] = #entry; \
         int16_t coefficients[129] = {0}; \
         uint8_t quant[65]; \
         int i; \
         OUTPUT(uint8_t); \
+        COUNTS; \
         memset(quant, 8, sizeof quant); \
         coefficients[0] = 4; \
         coefficients[64] = 1; \
-        REFUSED(name, entry(coefficients, 0, 0, 1, quant, 63, output, 0), 8); \
-        REFUSED(name, entry(coefficients, 0, 1, 0, quant, 63, output, 0), 8); \
-        REFUSED(name, entry(coefficients, 128, 4097, 1, quant, 64, output, w), 8); \
-        REFUSED(name, entry(coefficients, 128, 9, SIZE_MAX, quant, 64, output, w), 8); \
-        REFUSED(name, entry(coefficients, 127, 9, 1, quant, 63, output, (w) - 1), 1); \
-        REFUSED(name, entry(coefficients, 129, 9, 1, quant, 64, output, w), 1); \
-        REFUSED(name, entry(NULL, 0, 9, 1, NULL, 0, NULL, 0), 1); \
-        REFUSED(name, entry(coefficients, 128, 9, 1, quant, 63, output, (w) - 1), 2); \
-        REFUSED(name, entry(coefficients, 128, 9, 1, quant, 65, output, w), 2); \
-        REFUSED(name, entry(coefficients, 128, 9, 1, quant, 64, output, (w) - 1), 3); \
-        REFUSED(name, entry(coefficients, 128, 9, 1, quant, 64, output, (w) + 1), 3); \
-        REFUSED(name, entry(coefficients, 128, 9, 1, quant, 64, NULL, 0), 3); \
-        expect(entry(coefficients, 128, 9, 1, quant, 64, output, w) == 0, name, "is refused"); \
+        REFUSED_COUNTS(name, entry(coefficients, 0, 0, 1, quant, 63, output, 0, counts, 3), 8); \
+        REFUSED_COUNTS(name, entry(coefficients, 0, 1, 0, quant, 63, output, 0, counts, 2), 8); \
+        REFUSED_COUNTS(name, entry(coefficients, 128, 4097, 1, quant, 64, output, w, counts, 2), 8); \
+        REFUSED_COUNTS(name, entry(coefficients, 128, 9, SIZE_MAX, quant, 64, output, w, counts, 2), 8); \
+        REFUSED_COUNTS(name, entry(coefficients, 127, 9, 1, quant, 63, output, (w) - 1, counts, 1), 1); \
+        REFUSED_COUNTS(name, entry(coefficients, 129, 9, 1, quant, 64, output, w, counts, 2), 1); \
+        REFUSED_COUNTS(name, entry(NULL, 0, 9, 1, NULL, 0, NULL, 0, NULL, 0), 1); \
+        REFUSED_COUNTS(name, entry(coefficients, 128, 9, 1, quant, 63, output, (w) - 1, counts, 2), 2); \
+        REFUSED_COUNTS(name, entry(coefficients, 128, 9, 1, quant, 65, output, w, counts, 1), 2); \
+        REFUSED_COUNTS(name, entry(coefficients, 128, 9, 1, quant, 64, output, (w) - 1, counts, 2), 3); \
+        REFUSED_COUNTS(name, entry(coefficients, 128, 9, 1, quant, 64, output, (w) + 1, counts, 2), 3); \
+        REFUSED_COUNTS(name, entry(coefficients, 128, 9, 1, quant, 64, NULL, 0, counts, 2), 3); \
+        REFUSED_COUNTS(name, entry(coefficients, 128, 9, 1, quant, 64, output, w, counts, 1), 3); \
+        REFUSED_COUNTS(name, entry(coefficients, 128, 9, 1, quant, 64, output, w, counts, 3), 3); \
+        expect(entry(coefficients, 128, 9, 1, quant, 64, output, w, NULL, 0) == 0, name, "is refused without counts"); \
+        expect(untouched(held, sizeof held), name, "wrote counts that were not lent"); \
         for (i = 0; i < (w); i++) { \
             expect(output[i] == (i < (w) - 1 ? 132 : 129), name, "a sample"); \
         } \
+        coefficients[0] = -400; \
+        coefficients[64] = 400; \
+        expect(entry(coefficients, 128, 9, 1, quant, 64, output, w, counts, 2) == 0, name, "is refused"); \
+        for (i = 0; i < (w); i++) { \
+            expect(output[i] == (i < (w) - 1 ? 0 : 255), name, "a clamped sample"); \
+        } \
         WROTE(name, w); \
+        COUNTED(name, n, n); \
     } while (0)
 
 static void inverse_planes(void)
 {
-    INVERSE_PLANE(jpeg_block_islow_plane, 9);
-    INVERSE_PLANE(jpeg_block_islow_plane_4x4, 5);
-    INVERSE_PLANE(jpeg_block_islow_plane_2x2, 3);
+    INVERSE_PLANE(jpeg_block_islow_plane, 9, 64);
+    INVERSE_PLANE(jpeg_block_islow_plane_4x4, 5, 16);
+    INVERSE_PLANE(jpeg_block_islow_plane_2x2, 3, 4);
 }
 
 /* The divisor of DC is the reciprocal of 8 times its quantizer. */

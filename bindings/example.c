@@ -1,4 +1,4 @@
-/* Codes a block of samples, screens and dequantizes its coefficients, and decodes them again; then codes a plane. C and C++ take it. */
+/* Codes a block of samples, screens and dequantizes its coefficients, and decodes them again, also brighter than 8 bits hold; then codes a plane. C and C++ take it. */
 #include "jpeg_block.h"
 
 #include <stdio.h>
@@ -13,7 +13,7 @@ int main(void)
     uint8_t block[64], quant[64], decoded[64], yes[1], plane[WIDTH * HEIGHT];
     int16_t coefficients[64], dc[1], coded[64 * BLOCKS];
     int32_t products[64];
-    uint32_t status;
+    uint32_t status, counts[2];
     int n, nonzero = 0, largest = 0;
 
     for (n = 0; n < 64; n++) {
@@ -45,7 +45,7 @@ int main(void)
     if (status != JPEG_BLOCK_OK) {
         return EXIT_FAILURE;
     }
-    status = jpeg_block_islow_block_i32(products, 64, decoded, 64);
+    status = jpeg_block_islow_block_i32(products, 64, decoded, 64, NULL, 0);
     if (status != JPEG_BLOCK_OK) {
         return EXIT_FAILURE;
     }
@@ -57,8 +57,15 @@ int main(void)
     }
     printf("largest difference of a sample: %d\n", largest);
 
-    status = jpeg_block_islow_block_i32(products, 64, decoded, 63);
+    status = jpeg_block_islow_block_i32(products, 64, decoded, 63, NULL, 0);
     printf("an output of 63 places: refused %u\n", (unsigned)status);
+
+    products[0] += 800;
+    status = jpeg_block_islow_block_i32(products, 64, decoded, 64, counts, 2);
+    if (status != JPEG_BLOCK_OK) {
+        return EXIT_FAILURE;
+    }
+    printf("100 levels brighter: %u samples raised to 0, %u lowered to 255\n", (unsigned)counts[0], (unsigned)counts[1]);
 
     for (n = 0; n < WIDTH * HEIGHT; n++) {
         plane[n] = (uint8_t)(40 + 9 * (n % WIDTH) + 3 * (n / WIDTH));

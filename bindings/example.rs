@@ -1,5 +1,5 @@
 //! Codes a block of samples, screens and dequantizes its coefficients, and
-//! decodes them again; then codes a plane.
+//! decodes them again, also brighter than 8 bits hold; then codes a plane.
 
 mod jpeg_block;
 
@@ -32,6 +32,13 @@ fn run() -> Result<(), u32> {
     if let Err(number) = jpeg_block::islow_block_i32(&products, &mut decoded[..63]) {
         println!("an output of 63 places: refused {number}");
     }
+
+    products[0] += 800;
+    let clamped = jpeg_block::islow_block_i32(&products, &mut decoded)?;
+    println!(
+        "100 levels brighter: {} samples raised to 0, {} lowered to 255",
+        clamped.raised, clamped.lowered
+    );
 
     let (width, height) = (20, 12);
     let plane: Vec<u8> = (0..width * height)

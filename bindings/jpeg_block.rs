@@ -18,36 +18,48 @@ pub mod raw {
             input_len: usize,
             output: *mut u8,
             output_len: usize,
+            counts: *mut u32,
+            counts_len: usize,
         ) -> u32;
         pub fn jpeg_block_islow_block_i32(
             input: *const i32,
             input_len: usize,
             output: *mut u8,
             output_len: usize,
+            counts: *mut u32,
+            counts_len: usize,
         ) -> u32;
         pub fn jpeg_block_islow_block_top_half(
             input: *const i16,
             input_len: usize,
             output: *mut u8,
             output_len: usize,
+            counts: *mut u32,
+            counts_len: usize,
         ) -> u32;
         pub fn jpeg_block_islow_block_top_half_i32(
             input: *const i32,
             input_len: usize,
             output: *mut u8,
             output_len: usize,
+            counts: *mut u32,
+            counts_len: usize,
         ) -> u32;
         pub fn jpeg_block_islow_block_4x4(
             input: *const i16,
             input_len: usize,
             output: *mut u8,
             output_len: usize,
+            counts: *mut u32,
+            counts_len: usize,
         ) -> u32;
         pub fn jpeg_block_islow_block_2x2(
             input: *const i16,
             input_len: usize,
             output: *mut u8,
             output_len: usize,
+            counts: *mut u32,
+            counts_len: usize,
         ) -> u32;
         pub fn jpeg_block_islow_block_12bit(
             input: *const i16,
@@ -168,6 +180,8 @@ pub mod raw {
             quant_len: usize,
             output: *mut u8,
             output_len: usize,
+            counts: *mut u32,
+            counts_len: usize,
         ) -> u32;
         pub fn jpeg_block_islow_plane_4x4(
             coefficients: *const i16,
@@ -178,6 +192,8 @@ pub mod raw {
             quant_len: usize,
             output: *mut u8,
             output_len: usize,
+            counts: *mut u32,
+            counts_len: usize,
         ) -> u32;
         pub fn jpeg_block_islow_plane_2x2(
             coefficients: *const i16,
@@ -188,6 +204,8 @@ pub mod raw {
             quant_len: usize,
             output: *mut u8,
             output_len: usize,
+            counts: *mut u32,
+            counts_len: usize,
         ) -> u32;
         pub fn jpeg_block_screen(
             coefficients: *const i16,
@@ -245,13 +263,66 @@ fn answer<T>(status: u32, value: T) -> Result<T, u32> {
     }
 }
 
+/// What the clamp of an 8-bit inverse did: how many samples it raised to 0, and
+/// how many it lowered to 255. Samples that are 0 or 255 without it are not
+/// counted.
+#[derive(Clone, Copy, Debug, Default, PartialEq, Eq)]
+pub struct Clamped {
+    pub raised: u32,
+    pub lowered: u32,
+}
+
+fn clamped(status: u32, [raised, lowered]: [u32; 2]) -> Result<Clamped, u32> {
+    answer(status, Clamped { raised, lowered })
+}
+
 macro_rules! inverse {
-    ($($(#[$says:meta])* $name:ident, $raw:ident, $input:ty => $output:ty;)*) => {$(
+    ($($(#[$says:meta])* $name:ident, $raw:ident, $input:ty;)*) => {$(
         $(#[$says])*
         ///
         /// Refusals: 1, an input not of 64 places; 3, an output of the wrong length.
         #[inline]
-        pub fn $name(input: &[$input], output: &mut [$output]) -> Result<(), u32> {
+        pub fn $name(input: &[$input], output: &mut [u8]) -> Result<Clamped, u32> {
+            let mut counts = [0; 2];
+            // SAFETY: both are slices, an exclusive one overlaps no other, and
+            // the place for the counts is this function's own.
+            let status = unsafe {
+                raw::$raw(
+                    input.as_ptr(),
+                    input.len(),
+                    output.as_mut_ptr(),
+                    output.len(),
+                    counts.as_mut_ptr(),
+                    counts.len(),
+                )
+            };
+            clamped(status, counts)
+        }
+    )*};
+}
+
+inverse! {
+    /// 8x8 samples of 8 bits.
+    islow_block, jpeg_block_islow_block, i16;
+    /// 8x8 samples of 8 bits.
+    islow_block_i32, jpeg_block_islow_block_i32, i32;
+    /// 8x8 samples of 8 bits of a block whose rows 4 to 7 count as zero.
+    islow_block_top_half, jpeg_block_islow_block_top_half, i16;
+    /// 8x8 samples of 8 bits of a block whose rows 4 to 7 count as zero.
+    islow_block_top_half_i32, jpeg_block_islow_block_top_half_i32, i32;
+    /// 4x4 samples of 8 bits.
+    islow_block_4x4, jpeg_block_islow_block_4x4, i16;
+    /// 2x2 samples of 8 bits.
+    islow_block_2x2, jpeg_block_islow_block_2x2, i16;
+}
+
+macro_rules! inverse_12bit {
+    ($($(#[$says:meta])* $name:ident, $raw:ident;)*) => {$(
+        $(#[$says])*
+        ///
+        /// Refusals: 1, an input not of 64 places; 3, an output of the wrong length.
+        #[inline]
+        pub fn $name(input: &[i16], output: &mut [u16]) -> Result<(), u32> {
             // SAFETY: both are slices, and an exclusive one overlaps no other.
             let status = unsafe {
                 raw::$raw(input.as_ptr(), input.len(), output.as_mut_ptr(), output.len())
@@ -261,25 +332,13 @@ macro_rules! inverse {
     )*};
 }
 
-inverse! {
-    /// 8x8 samples of 8 bits.
-    islow_block, jpeg_block_islow_block, i16 => u8;
-    /// 8x8 samples of 8 bits.
-    islow_block_i32, jpeg_block_islow_block_i32, i32 => u8;
-    /// 8x8 samples of 8 bits of a block whose rows 4 to 7 count as zero.
-    islow_block_top_half, jpeg_block_islow_block_top_half, i16 => u8;
-    /// 8x8 samples of 8 bits of a block whose rows 4 to 7 count as zero.
-    islow_block_top_half_i32, jpeg_block_islow_block_top_half_i32, i32 => u8;
-    /// 4x4 samples of 8 bits.
-    islow_block_4x4, jpeg_block_islow_block_4x4, i16 => u8;
-    /// 2x2 samples of 8 bits.
-    islow_block_2x2, jpeg_block_islow_block_2x2, i16 => u8;
+inverse_12bit! {
     /// 8x8 samples of 12 bits.
-    islow_block_12bit, jpeg_block_islow_block_12bit, i16 => u16;
+    islow_block_12bit, jpeg_block_islow_block_12bit;
     /// 4x4 samples of 12 bits.
-    islow_block_12bit_4x4, jpeg_block_islow_block_12bit_4x4, i16 => u16;
+    islow_block_12bit_4x4, jpeg_block_islow_block_12bit_4x4;
     /// 2x2 samples of 12 bits.
-    islow_block_12bit_2x2, jpeg_block_islow_block_12bit_2x2, i16 => u16;
+    islow_block_12bit_2x2, jpeg_block_islow_block_12bit_2x2;
 }
 
 /// The 64 canonical coefficients of a block. Refusals: 1, a block not of 64
@@ -526,6 +585,7 @@ pub fn dequantize(coefficients: &[i16], quant: &[u8], out: &mut [i32]) -> Result
 macro_rules! inverse_plane {
     ($($(#[$says:meta])* $name:ident, $raw:ident;)*) => {$(
         $(#[$says])*
+        /// The counts are those of whole blocks, before any is cropped.
         ///
         /// Refusals: 8, a width or height of 0 or above 4096; 1, coefficients not
         /// 64 for each block; 2, a table not of 64; 3, an output of the wrong length.
@@ -536,8 +596,10 @@ macro_rules! inverse_plane {
             height: usize,
             quant: &[u8],
             output: &mut [u8],
-        ) -> Result<(), u32> {
-            // SAFETY: all are slices, and an exclusive one overlaps no other.
+        ) -> Result<Clamped, u32> {
+            let mut counts = [0; 2];
+            // SAFETY: all are slices, an exclusive one overlaps no other, and
+            // the place for the counts is this function's own.
             let status = unsafe {
                 raw::$raw(
                     coefficients.as_ptr(),
@@ -548,9 +610,11 @@ macro_rules! inverse_plane {
                     quant.len(),
                     output.as_mut_ptr(),
                     output.len(),
+                    counts.as_mut_ptr(),
+                    counts.len(),
                 )
             };
-            answer(status, ())
+            clamped(status, counts)
         }
     )*};
 }

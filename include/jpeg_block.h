@@ -48,19 +48,23 @@ extern "C" {
 #define JPEG_BLOCK_REFUSED_PERCENT 11
 #define JPEG_BLOCK_REFUSED_SAMPLE 12
 
-/* The inverse transforms (ISLOW) of 64 dequantized coefficients. Refusals 1, 3. */
+/* The inverse transforms (ISLOW) of 64 dequantized coefficients. Refusals 1, 3.
+ *
+ * Those of 8 bits, and those of planes below, say what the clamp to 0..255 did: into counts[0] how many samples it raised to 0, into
+ * counts[1] how many it lowered to 255; samples that are 0 or 255 without it are not counted. counts_len 2; or 0, with any pointer, NULL
+ * too, where they are not wanted. Another length is refused by 3, tested last. */
 
 /* 8x8 samples of 8 bits; output_len 64. The sums wrap at 32 bits. */
-uint32_t jpeg_block_islow_block(const int16_t *input, size_t input_len, uint8_t *output, size_t output_len);
-uint32_t jpeg_block_islow_block_i32(const int32_t *input, size_t input_len, uint8_t *output, size_t output_len);
+uint32_t jpeg_block_islow_block(const int16_t *input, size_t input_len, uint8_t *output, size_t output_len, uint32_t *counts, size_t counts_len);
+uint32_t jpeg_block_islow_block_i32(const int32_t *input, size_t input_len, uint8_t *output, size_t output_len, uint32_t *counts, size_t counts_len);
 
 /* The same of a block whose rows 4 to 7 (entries 32 to 63) count as zero: they are not read, but belong to the 64 places. */
-uint32_t jpeg_block_islow_block_top_half(const int16_t *input, size_t input_len, uint8_t *output, size_t output_len);
-uint32_t jpeg_block_islow_block_top_half_i32(const int32_t *input, size_t input_len, uint8_t *output, size_t output_len);
+uint32_t jpeg_block_islow_block_top_half(const int16_t *input, size_t input_len, uint8_t *output, size_t output_len, uint32_t *counts, size_t counts_len);
+uint32_t jpeg_block_islow_block_top_half_i32(const int32_t *input, size_t input_len, uint8_t *output, size_t output_len, uint32_t *counts, size_t counts_len);
 
 /* 4x4 and 2x2 samples of 8 bits; output_len 16 and 4. */
-uint32_t jpeg_block_islow_block_4x4(const int16_t *input, size_t input_len, uint8_t *output, size_t output_len);
-uint32_t jpeg_block_islow_block_2x2(const int16_t *input, size_t input_len, uint8_t *output, size_t output_len);
+uint32_t jpeg_block_islow_block_4x4(const int16_t *input, size_t input_len, uint8_t *output, size_t output_len, uint32_t *counts, size_t counts_len);
+uint32_t jpeg_block_islow_block_2x2(const int16_t *input, size_t input_len, uint8_t *output, size_t output_len, uint32_t *counts, size_t counts_len);
 
 /* 8x8, 4x4 and 2x2 samples of 12 bits, 0 to 4095; output_len 64, 16 and 4. */
 uint32_t jpeg_block_islow_block_12bit(const int16_t *input, size_t input_len, uint16_t *output, size_t output_len);
@@ -124,11 +128,11 @@ uint32_t jpeg_block_fdct_quantize_plane(const uint8_t *samples, size_t samples_l
 
 /* Coefficients, 64 for each block as jpeg_block_fdct_quantize_plane writes them, back to samples of 8 bits, row by row: at full size,
  * output_len width * height; with 4 or 2 samples for a block's side, output_len that of the width and height divided by 2 or 4, each
- * rounded up. What a block has beyond the plane's edge is left out. At full size the products of coefficient and quantizer are of 32
- * bits, else each is clamped to 16. Refusals 8, 1, 2, 3. */
-uint32_t jpeg_block_islow_plane(const int16_t *coefficients, size_t coefficients_len, size_t width, size_t height, const uint8_t *quant, size_t quant_len, uint8_t *output, size_t output_len);
-uint32_t jpeg_block_islow_plane_4x4(const int16_t *coefficients, size_t coefficients_len, size_t width, size_t height, const uint8_t *quant, size_t quant_len, uint8_t *output, size_t output_len);
-uint32_t jpeg_block_islow_plane_2x2(const int16_t *coefficients, size_t coefficients_len, size_t width, size_t height, const uint8_t *quant, size_t quant_len, uint8_t *output, size_t output_len);
+ * rounded up. What a block has beyond the plane's edge is left out, but counted. At full size the products of coefficient and quantizer are of 32
+ * bits, else each is clamped to 16. Refusals 8, 1, 2, 3; then 3 for counts. */
+uint32_t jpeg_block_islow_plane(const int16_t *coefficients, size_t coefficients_len, size_t width, size_t height, const uint8_t *quant, size_t quant_len, uint8_t *output, size_t output_len, uint32_t *counts, size_t counts_len);
+uint32_t jpeg_block_islow_plane_4x4(const int16_t *coefficients, size_t coefficients_len, size_t width, size_t height, const uint8_t *quant, size_t quant_len, uint8_t *output, size_t output_len, uint32_t *counts, size_t counts_len);
+uint32_t jpeg_block_islow_plane_2x2(const int16_t *coefficients, size_t coefficients_len, size_t width, size_t height, const uint8_t *quant, size_t quant_len, uint8_t *output, size_t output_len, uint32_t *counts, size_t counts_len);
 
 /* A table by percent, 1 to 200: each quantizer of the base table times the percent, plus 50, divided by 100 and rounded down, then held to
  * 1..255; out_len 64. A larger percent makes no divisor smaller and no zero coefficient nonzero. Refusals 2, 3, 11. */

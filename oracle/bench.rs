@@ -502,8 +502,12 @@ fn main() {
         );
         let raised: Vec<_> = whole.iter().map(Raised::new).collect();
         let ours = |input: &Raised, output: &mut [i16; 64]| {
-            black_box(jpeg_block::fdct_quantize_12bit(&input.raised, &input.widened, output))
-                .expect("no refusal");
+            black_box(jpeg_block::fdct_quantize_12bit(
+                &input.raised,
+                &input.widened,
+                output,
+            ))
+            .expect("no refusal");
         };
         mode.run(
             "fdct_quantize_12bit",
@@ -520,8 +524,12 @@ fn main() {
                 &raised,
                 [0; 64],
                 |input, output| {
-                    black_box(jpeg_block::fdct_quantize(&input.block, &input.quant, output))
-                        .expect("no refusal");
+                    black_box(jpeg_block::fdct_quantize(
+                        &input.block,
+                        &input.quant,
+                        output,
+                    ))
+                    .expect("no refusal");
                 },
                 ours,
             );

@@ -113,7 +113,7 @@ fn end<T: Number>(random: &mut Random) -> i64 {
 }
 
 /// What each output of a 1-D transform takes of each input.
-fn gains<const N: usize>(transform: fn([i32; 8]) -> [i32; N]) -> Vec<[i32; 8]> {
+pub fn gains<const N: usize>(transform: fn([i32; 8]) -> [i32; N]) -> Vec<[i32; 8]> {
     let mut all = vec![[0; 8]; N];
     for k in 0..8 {
         let mut impulse = [0; 8];

@@ -1,6 +1,7 @@
 //! Compares every function of libjpeg_block.a with the published Rust, and
 //! those that it does not have with stored.rs, records.rs, percents.rs,
-//! queues.rs and twelve_bit.rs, on many inputs.
+//! queues.rs and twelve_bit.rs, on many inputs; the counts of the 8-bit inverses
+//! with clamped.rs.
 //!
 //! Arguments: the seconds to spend, and the seed. Each function is first called
 //! with lengths around every one that it takes. Then all are asked for a list of
@@ -14,6 +15,7 @@
 
 #[allow(dead_code)]
 mod blocks;
+mod clamped;
 #[allow(dead_code)]
 mod forward;
 #[allow(dead_code)]
@@ -32,7 +34,8 @@ mod records;
 mod stored;
 mod twelve_bit;
 
-use blocks::{blocks_from, Clamp, CLAMP_12BIT, CLAMP_8BIT};
+use blocks::{blocks_from, CLAMP_12BIT, CLAMP_8BIT};
+use clamped::{clamped, Size};
 use forward::{
     any_table, single_coefficients_from, whole_blocks_from, Samples, Single, Table, Whole,
 };
@@ -339,7 +342,7 @@ impl Record {
 
 /// Calls with an output of N places between guards. A 64-place output needs
 /// 96 places in all.
-fn guarded<S: Place, const N: usize>(call: impl Fn(&mut [S]) -> u32) -> Left<S, N> {
+fn guarded<S: Place, const N: usize>(mut call: impl FnMut(&mut [S]) -> u32) -> Left<S, N> {
     let mut all = [S::FILL; 64 + 2 * GUARD];
     let status = call(&mut all[GUARD..GUARD + N]);
     let (before, rest) = all.split_at(GUARD);
@@ -376,6 +379,51 @@ fn call2<A, B, S>(
             out.as_mut_ptr(),
             out.len(),
         )
+    }
+}
+
+/// A call on a block with a place for the counts.
+type Counting<T> = unsafe extern "C" fn(*const T, usize, *mut u8, usize, *mut u32, usize) -> u32;
+
+fn counting<T>(f: Counting<T>, input: &[T], out: &mut [u8], counts: &mut [u32]) -> u32 {
+    // SAFETY: all are slices, and an exclusive one overlaps no other.
+    unsafe {
+        f(
+            input.as_ptr(),
+            input.len(),
+            out.as_mut_ptr(),
+            out.len(),
+            counts.as_mut_ptr(),
+            counts.len(),
+        )
+    }
+}
+
+/// What no call answers.
+const WRONG: u32 = u32::MAX;
+
+/// The status of a call with two places for the counts; `WRONG` where one with
+/// another length is not refused after it, or where a refused one writes.
+fn counts_tried(to: &mut [u8], call: impl Fn(&mut [u8], &mut [u32]) -> u32) -> u32 {
+    let mut others = Vec::new();
+    for n in [1, 3] {
+        let mut counts = Lent::new(n);
+        others.push(call(to, counts.places()));
+        if !counts.kept() || to.iter().any(|x| *x != u8::FILL) {
+            return WRONG;
+        }
+    }
+    let mut counts = Lent::new(2);
+    let status = call(to, counts.places());
+    let (kept, refused) = if status == 0 {
+        (counts.guards(), 3)
+    } else {
+        (counts.kept(), status)
+    };
+    if kept && others.iter().all(|other| *other == refused) {
+        status
+    } else {
+        WRONG
     }
 }
 
@@ -623,6 +671,45 @@ fn call_plane<A, S>(
     }
 }
 
+/// A call on a plane with a place for the counts.
+type CountingPlane = unsafe extern "C" fn(
+    *const i16,
+    usize,
+    usize,
+    usize,
+    *const u8,
+    usize,
+    *mut u8,
+    usize,
+    *mut u32,
+    usize,
+) -> u32;
+
+fn counting_plane(
+    f: CountingPlane,
+    input: &[i16],
+    (width, height): (usize, usize),
+    quant: &[u8],
+    out: &mut [u8],
+    counts: &mut [u32],
+) -> u32 {
+    // SAFETY: all are slices, and an exclusive one overlaps no other.
+    unsafe {
+        f(
+            input.as_ptr(),
+            input.len(),
+            width,
+            height,
+            quant.as_ptr(),
+            quant.len(),
+            out.as_mut_ptr(),
+            out.len(),
+            counts.as_mut_ptr(),
+            counts.len(),
+        )
+    }
+}
+
 /// Widths and heights around every one that a plane call takes.
 const MEASURES: [usize; 10] = [0, 1, 7, 8, 9, 4095, 4096, 4097, 1 << 32, usize::MAX];
 
@@ -711,13 +798,13 @@ impl Compare {
         self.functions.push(Function { tally, try_list });
     }
 
-    fn inverse<T: Number + Row + 'static, S: Place + Default + 'static, const N: usize>(
-        &mut self,
+    /// Every length around the right ones, of an output of n places.
+    fn block_lengths<T: Number, S: Place>(
+        &self,
         name: &'static str,
-        clamp: &'static Clamp,
-        f: unsafe extern "C" fn(*const T, usize, *mut S, usize) -> u32,
-        rust: impl Fn(&[T; 64], &mut [S; N]) + 'static,
-    ) {
+        n: usize,
+        call: impl Fn(&[T], &mut [S]) -> u32,
+    ) -> Tally {
         let mut tally = Tally::new(name);
         let mut random = Random(self.seed);
         let input: Vec<T> = (0..128).map(|_| T::of(random.any_width(T::BITS))).collect();
@@ -725,22 +812,63 @@ impl Compare {
             for out in LENGTHS {
                 let number = if a != 64 {
                     1
-                } else if out != N {
+                } else if out != n {
                     3
                 } else {
                     0
                 };
-                tally.length(number, out, (a, out), |to: &mut [S]| {
-                    call1(f, &input[..a], to)
-                });
+                tally.length(number, out, (a, out), |to: &mut [S]| call(&input[..a], to));
             }
         }
+        tally
+    }
+
+    /// An 8-bit inverse, of a block of which the rows from `rows` on count as
+    /// zero. Each block is asked for with counts and without.
+    fn inverse<T: Number + Row + Into<i64> + 'static, const N: usize>(
+        &mut self,
+        name: &'static str,
+        (size, rows): (Size, usize),
+        f: Counting<T>,
+        rust: impl Fn(&[T; 64], &mut [u8; N]) + 'static,
+    ) {
+        let tally = self.block_lengths(name, N, |input: &[T], to| {
+            counts_tried(to, |to, counts| counting(f, input, to, counts))
+        });
         self.inputs(
             tally,
-            move |seed| blocks_from::<T>(seed, clamp, LIST),
+            move |seed| blocks_from::<T>(seed, &CLAMP_8BIT, LIST),
+            move |input| {
+                let mut counts = Lent::new(2);
+                let left = guarded(|to| counting(f, input, to, counts.places()));
+                let without = guarded(|to| counting(f, input, to, &mut []));
+                (left, without, counts.held().to_vec(), counts.guards())
+            },
+            move |input| {
+                let mut output = [0; N];
+                rust(input, &mut output);
+                let read: [i64; 64] =
+                    core::array::from_fn(|n| if n / 8 < rows { input[n].into() } else { 0 });
+                let (samples, counts) = clamped(&size.numbers(&read));
+                assert_eq!(samples, output, "{name}: not the Rust's numbers");
+                (written(output), written(output), counts.to_vec(), true)
+            },
+        );
+    }
+
+    fn inverse_12bit<const N: usize>(
+        &mut self,
+        name: &'static str,
+        f: unsafe extern "C" fn(*const i16, usize, *mut u16, usize) -> u32,
+        rust: impl Fn(&[i16; 64], &mut [u16; N]) + 'static,
+    ) {
+        let tally = self.block_lengths(name, N, |input: &[i16], to| call1(f, input, to));
+        self.inputs(
+            tally,
+            move |seed| blocks_from::<i16>(seed, &CLAMP_12BIT, LIST),
             move |input| guarded(|to| call1(f, input, to)),
             move |input| {
-                let mut output = [S::default(); N];
+                let mut output = [0; N];
                 rust(input, &mut output);
                 written(output)
             },
@@ -781,55 +909,52 @@ impl Compare {
     fn inverses(&mut self) {
         self.inverse(
             "islow_block",
-            &CLAMP_8BIT,
+            (Size::eight(), 8),
             raw::jpeg_block_islow_block,
             idct::islow_block::<i16>,
         );
         self.inverse(
             "islow_block_i32",
-            &CLAMP_8BIT,
+            (Size::eight(), 8),
             raw::jpeg_block_islow_block_i32,
             idct::islow_block::<i32>,
         );
         self.inverse(
             "islow_block_top_half",
-            &CLAMP_8BIT,
+            (Size::eight(), 4),
             raw::jpeg_block_islow_block_top_half,
             idct::islow_block_top_half::<i16>,
         );
         self.inverse(
             "islow_block_top_half_i32",
-            &CLAMP_8BIT,
+            (Size::eight(), 4),
             raw::jpeg_block_islow_block_top_half_i32,
             idct::islow_block_top_half::<i32>,
         );
         self.inverse(
             "islow_block_4x4",
-            &CLAMP_8BIT,
+            (Size::four(), 8),
             raw::jpeg_block_islow_block_4x4,
             idct::islow_block_4x4,
         );
         self.inverse(
             "islow_block_2x2",
-            &CLAMP_8BIT,
+            (Size::two(), 8),
             raw::jpeg_block_islow_block_2x2,
             idct::islow_block_2x2,
         );
-        self.inverse(
+        self.inverse_12bit(
             "islow_block_12bit",
-            &CLAMP_12BIT,
             raw::jpeg_block_islow_block_12bit,
             idct::islow_block_12bit,
         );
-        self.inverse(
+        self.inverse_12bit(
             "islow_block_12bit_4x4",
-            &CLAMP_12BIT,
             raw::jpeg_block_islow_block_12bit_4x4,
             idct::islow_block_12bit_4x4,
         );
-        self.inverse(
+        self.inverse_12bit(
             "islow_block_12bit_2x2",
-            &CLAMP_12BIT,
             raw::jpeg_block_islow_block_12bit_2x2,
             idct::islow_block_12bit_2x2,
         );
@@ -891,7 +1016,7 @@ impl Compare {
     fn plane_lengths<A: Copy + Default, S: Place>(
         tally: &mut Tally,
         number: u32,
-        f: PlaneCall<A, S>,
+        call: impl Fn(&[A], (usize, usize), &[u8], &mut [S]) -> u32,
         lengths: impl Fn(usize, usize) -> (usize, usize),
     ) {
         let (zeros, table) = (vec![A::default(); (1 << 16) + 1], [0; 65]);
@@ -925,7 +1050,7 @@ impl Compare {
                                 (width, height, input, quant, out),
                                 |to: &mut [S]| {
                                     let size = (width, height);
-                                    call_plane(f, &zeros[..input], size, &table[..quant], to)
+                                    call(&zeros[..input], size, &table[..quant], to)
                                 },
                             );
                         }
@@ -970,13 +1095,19 @@ impl Compare {
         &mut self,
         name: &'static str,
         (side, by): (usize, usize),
-        f: PlaneCall<i16, u8>,
+        f: CountingPlane,
+        (size_of, fit): (Size, fn(i32) -> i32),
         block: impl Fn(&[i32; 64]) -> Vec<u8> + 'static,
     ) {
         let mut tally = Tally::new(name);
         let shown =
             move |(width, height): (usize, usize)| (width.div_ceil(by), height.div_ceil(by));
-        Self::plane_lengths(&mut tally, 1, f, |width, height| {
+        let call = |input: &[i16], size, quant: &[u8], to: &mut [u8]| {
+            counts_tried(to, |to, counts| {
+                counting_plane(f, input, size, quant, to, counts)
+            })
+        };
+        Self::plane_lengths(&mut tally, 1, call, |width, height| {
             let (columns, rows) = shown((width, height));
             let blocks = planes::blocks(width) * planes::blocks(height);
             (64 * blocks, columns * rows)
@@ -985,30 +1116,53 @@ impl Compare {
             let coded = any_coded(random, size.0, size.1);
             let (columns, rows) = shown(size);
             let mut out = Lent::new(columns * rows);
-            let status = call_plane(f, &coded.coefficients, size, quant, out.places());
+            let mut counts = Lent::new(2);
+            let status = counting_plane(
+                f,
+                &coded.coefficients,
+                size,
+                quant,
+                out.places(),
+                counts.places(),
+            );
             if status != 0 {
                 return Some(format!("refused {status}"));
             }
-            if !out.guards() {
-                return Some("wrote beside the output".to_string());
+            if !out.guards() || !counts.guards() {
+                return Some("wrote beside an output".to_string());
             }
+            // Those of whole blocks, and so of more samples than are shown.
+            let mut sums = [0; 2];
             let blocks: Vec<Vec<u8>> = coded
                 .coefficients
                 .chunks(64)
                 .map(|c| {
                     let c = c.try_into().expect("64 coefficients");
-                    block(&stored::dequantized((c, *quant)))
+                    let products = stored::dequantized((c, *quant));
+                    let (samples, counts) =
+                        clamped(&size_of.numbers(&products.map(|p| i64::from(fit(p)))));
+                    let expected = block(&products);
+                    assert_eq!(samples, expected, "{name}: not the Rust's numbers");
+                    sums = [sums[0] + counts[0], sums[1] + counts[1]];
+                    expected
                 })
                 .collect();
             let expected = together(&blocks, side, planes::blocks(size.0), (columns, rows));
-            plane_difference(&coded, quant, out.held(), &expected, columns, side)
+            let differs = plane_difference(&coded, quant, out.held(), &expected, columns, side);
+            if differs.is_none() && counts.held() != sums {
+                return Some(format!("counts {:?}, expected {sums:?}", counts.held()));
+            }
+            differs
         });
     }
 
     fn planes(&mut self) {
         let mut tally = Tally::new("fdct_quantize_plane");
         let f = raw::jpeg_block_fdct_quantize_plane;
-        Self::plane_lengths(&mut tally, 9, f, |width, height| {
+        let call = |samples: &[u8], size, quant: &[u8], to: &mut [i16]| {
+            call_plane(f, samples, size, quant, to)
+        };
+        Self::plane_lengths(&mut tally, 9, call, |width, height| {
             let blocks = planes::blocks(width) * planes::blocks(height);
             (width * height, 64 * blocks)
         });
@@ -1037,19 +1191,20 @@ impl Compare {
             "islow_plane",
             (8, 1),
             raw::jpeg_block_islow_plane,
+            (Size::eight(), |p| p),
             |products| {
                 let mut samples = [0; 64];
                 idct::islow_block(products, &mut samples);
                 samples.to_vec()
             },
         );
-        let narrow = |products: &[i32; 64]| {
-            products.map(|p| p.clamp(i32::from(i16::MIN), i32::from(i16::MAX)) as i16)
-        };
+        let fit = |p: i32| p.clamp(i32::from(i16::MIN), i32::from(i16::MAX));
+        let narrow = move |products: &[i32; 64]| products.map(|p| fit(p) as i16);
         self.inverse_plane(
             "islow_plane_4x4",
             (4, 2),
             raw::jpeg_block_islow_plane_4x4,
+            (Size::four(), fit),
             move |products| {
                 let mut samples = [0; 16];
                 idct::islow_block_4x4(&narrow(products), &mut samples);
@@ -1060,6 +1215,7 @@ impl Compare {
             "islow_plane_2x2",
             (2, 4),
             raw::jpeg_block_islow_plane_2x2,
+            (Size::two(), fit),
             move |products| {
                 let mut samples = [0; 4];
                 idct::islow_block_2x2(&narrow(products), &mut samples);

@@ -5,4 +5,5 @@ pub mod Exact
 pub mod Load
 pub mod Store
 pub mod Rows
+pub mod Counts
 pub mod Steps

@@ -109,7 +109,7 @@ pub column-skipped : (ks : List ℕ) (f : List ℤ → List ℤ) → Ignores ks 
 column-skipped ks f h xs u e g = g ∙ ap f e ∙ skipping ks f h (columnOf xs u)
 
 -- nor columns that the rows ignore
-module _ (ks : List ℕ) (column row : List ℤ → List ℤ) (clamp : ℤ → ℕ) (n : ℕ) (r : Ignores ks row) (xs : List ℤ) (d : List ℤ) where
+module _ {A : Type 0} (ks : List ℕ) (column row : List ℤ → List ℤ) (clamp : ℤ → A) (n : ℕ) (r : Ignores ks row) (xs : List ℤ) (d : List ℤ) where
   rows-agree : (y : ℕ) → AgreeBut ks (rowOf (without d ks (columns column xs)) y) (rowOf (columns column xs) y)
   unfolding rowOf columns without
   rows-agree y = tab-agree ks 8 _ _ (λ u b l. ap (λ (p : List ℤ). getD p y (pos 0)) (there u b l ∙ sym (made u b [])))
@@ -122,7 +122,7 @@ module _ (ks : List ℕ) (column row : List ℤ → List ℤ) (clamp : ℤ → �
           getD-tab (length (columns column xs)) (λ k. cond (listed ks k) d (getD (columns column xs) k d)) [] u (omega (arith, length-tab 8 (λ u. column (columnOf xs u))))
           ∙ ap (λ (t : Bool). cond t d (getD (columns column xs) u d)) l ∙ made u b d
 
-  pub samples-without : {cols : List (List ℤ)} {out : List ℕ} → cols ≡ without d ks (columns column xs) → out ≡ rowSamples row clamp n cols → out ≡ samples column row clamp n xs
+  pub samples-without : {cols : List (List ℤ)} {out : List A} → cols ≡ without d ks (columns column xs) → out ≡ rowSamples row clamp n cols → out ≡ samples column row clamp n xs
   unfolding samples rowSamples
   samples-without e h = h ∙ ap (rowSamples row clamp n) e ∙ tab-ext (n * n) _ _ (λ i b. ap (λ (p : List ℤ). clamp (getD p (i % n) (pos 0))) (r _ _ (rows-agree (i / n))))
 

@@ -25,12 +25,13 @@ columns column xs = tab 8 (λ u. column (columnOf xs u))
 unfoldable pub rowOf : List (List ℤ) → ℕ → List ℤ
 rowOf cols y = tab 8 (λ u. getD (getD cols u []) y (pos 0))
 
--- n·n samples, row by row, of what is given by its columns: sample x of row y is the clamp of number x of the pass over row y
-unfoldable pub rowSamples : (List ℤ → List ℤ) → (ℤ → ℕ) → ℕ → List (List ℤ) → List ℕ
+-- n·n samples, row by row, of what is given by its columns: sample x of row y is the clamp of number x of the pass over row y. (What a place
+-- gives is a sample or, for the counts, the number itself.)
+unfoldable pub rowSamples : {A : Type 0} → (List ℤ → List ℤ) → (ℤ → A) → ℕ → List (List ℤ) → List A
 rowSamples row clamp n cols = tab (n * n) (λ i. clamp (getD (row (rowOf cols (i / n))) (i % n) (pos 0)))
 
 -- the block: columns first, then rows
-unfoldable pub samples : (List ℤ → List ℤ) → (List ℤ → List ℤ) → (ℤ → ℕ) → ℕ → List ℤ → List ℕ
+unfoldable pub samples : {A : Type 0} → (List ℤ → List ℤ) → (List ℤ → List ℤ) → (ℤ → A) → ℕ → List ℤ → List A
 samples column row clamp n xs = rowSamples row clamp n (columns column xs)
 
 -- the 8-bit block of a size

@@ -2,7 +2,7 @@
 // functions; document 01, "The inverse blocks").
 //
 // A block comes in natural order; what the column pass gives is held by columns. Nothing is computed here: a number of 16 bits is
-// loaded as it is (`Fits16`), and `sample_u8` and `sample_12bit` clamp what is stored. A helper requires what its callers have tested;
+// loaded as it is (`Fits16`), `sample_u8` and `sample_12bit` clamp what is stored, and `clamped` takes two counts apart. A helper requires what its callers have tested;
 // the entries refuse.
 ghost use mathlib.Core.Path.{_≡_};
 ghost use mathlib.Core.List.{map};
@@ -15,6 +15,8 @@ ghost use Rattle.lists.specs.Every.{Every};
 ghost use Rattle.gains.specs.Gains.{skipped4, skipped2};
 ghost use Rattle.clamping.specs.Clamping.{sampleU8, sample12bit};
 ghost use Rattle.block.specs.Block.{columnOf, firstRows, rowOf, without};
+ghost use Rattle.block.specs.Clamped.{refusedBy, clampedBy};
+use block::Clamped;
 use clamping::sample_12bit;
 use clamping::sample_u8;
 
@@ -138,7 +140,7 @@ pub fn put_row(output: &mut [u8], at: usize, q: &[i32])
 {
     let mut k = 0;
     while k < q.len() {
-        output[at + k] = sample_u8(q[k]);
+        output[at + k] = sample_u8(q[k]).sample;
         k += 1;
     }
 }
@@ -152,5 +154,27 @@ pub fn put_row_12bit(output: &mut [u16], at: usize, q: &[i64])
     while k < q.len() {
         output[at + k] = sample_12bit(q[k]);
         k += 1;
+    }
+}
+
+// The answer of a block that is refused.
+pub fn refused(number: u32) -> Clamped
+    ensures { λ r. ⌜ r ≡ refusedBy number ⌝ }
+{
+    Clamped {
+        status: number,
+        raised: 0,
+        lowered: 0,
+    }
+}
+
+// The answer of a block whose samples were written, of the number that has both counts in it (`tallyOne`).
+pub fn clamped(tally: u32) -> Clamped
+    ensures { λ r. ⌜ r ≡ clampedBy tally ⌝ }
+{
+    Clamped {
+        status: 0,
+        raised: tally % 256,
+        lowered: tally / 256,
     }
 }

@@ -1,1 +1,3 @@
 pub mod Clamping
+pub mod Rule
+pub mod Counts

@@ -6,7 +6,8 @@
 // never wraps (`column-eight`, `columns-narrow` of block/proofs), so it goes by direct products and has no zero shortcut.
 //
 // Each entry answers its refusal number, 1 for an input not of 64 places, then 3 for an output not of 64, and then leaves the output as it
-// was; or 0, and the output holds the samples.
+// was; or 0, and the output holds the samples, with how many of them the clamp raised to 0 and how many it lowered to 255 (document 02,
+// card 4).
 mod column_pass;
 mod fit_16;
 mod row_pass;
@@ -20,14 +21,18 @@ ghost use Rattle.lists.specs.Every.{Every};
 ghost use Rattle.gains.specs.Gains.{gains};
 ghost use Rattle.passes.specs.Passes.{pass, eight};
 ghost use Rattle.block.specs.Block.{columnOf, columns, block, firstRows, inverseTests};
-ghost use Rattle.refusals.specs.Refusals.{status, written};
+ghost use Rattle.block.specs.Clamped.{blockRaised, blockLowered, clampedAnswer};
+ghost use Rattle.refusals.specs.Refusals.{written};
 use crate::column_pass::columns_as_i16;
 use crate::column_pass::columns_i32;
 use crate::column_pass::columns_top_half_as_i16;
 use crate::column_pass::islow_columns_top_half;
 use crate::fit_16::all_fit;
 use crate::row_pass::rows;
+use block::Clamped;
+use block_access::clamped;
 use block_access::load_column;
+use block_access::refused;
 use islow::direct::islow_1d_direct;
 use passes::PASS1_SHIFT;
 use passes::descale_8;
@@ -49,35 +54,33 @@ pub fn islow_columns(input: &[i16], shift: u32) -> [[i32; 8]; 8]
 }
 
 // The 8×8 block.
-pub fn islow_block(input: &[i16], output: &mut [u8]) -> u32
-    ensures { λ r. ⌜ r ≡ status (inverseTests 64 (now (input .entry)) (now (output .entry))) ⌝ }
-    ensures { λ r. ⌜ now (output .exit) ≡ written r (block eight (now (input .entry))) (now (output .entry)) ⌝ }
+pub fn islow_block(input: &[i16], output: &mut [u8]) -> Clamped
+    ensures { λ r. ⌜ r ≡ clampedAnswer (inverseTests 64 (now (input .entry)) (now (output .entry))) (blockRaised eight (now (input .entry))) (blockLowered eight (now (input .entry))) ⌝ }
+    ensures { λ r. ⌜ now (output .exit) ≡ written (r .status) (block eight (now (input .entry))) (now (output .entry)) ⌝ }
 {
     if input.len() != 64 {
-        return 1; // an input block not of its 64 places
+        return refused(1); // an input block not of its 64 places
     }
     if output.len() != 64 {
-        return 3; // an output of the wrong length
+        return refused(3); // an output of the wrong length
     }
     let w = islow_columns(input, PASS1_SHIFT);
-    rows(&w, output);
-    0 // the output holds the samples
+    clamped(rows(&w, output)) // the output holds the samples
 }
 
 // The block whose rows 4..7 are zero, or count as zero: they are not read.
-pub fn islow_block_top_half(input: &[i16], output: &mut [u8]) -> u32
-    ensures { λ r. ⌜ r ≡ status (inverseTests 64 (now (input .entry)) (now (output .entry))) ⌝ }
-    ensures { λ r. ⌜ now (output .exit) ≡ written r (block eight (firstRows 4 (now (input .entry)))) (now (output .entry)) ⌝ }
+pub fn islow_block_top_half(input: &[i16], output: &mut [u8]) -> Clamped
+    ensures { λ r. ⌜ r ≡ clampedAnswer (inverseTests 64 (now (input .entry)) (now (output .entry))) (blockRaised eight (firstRows 4 (now (input .entry)))) (blockLowered eight (firstRows 4 (now (input .entry)))) ⌝ }
+    ensures { λ r. ⌜ now (output .exit) ≡ written (r .status) (block eight (firstRows 4 (now (input .entry)))) (now (output .entry)) ⌝ }
 {
     if input.len() != 64 {
-        return 1; // rows 4..7 too must be there, though they are not read
+        return refused(1); // rows 4..7 too must be there, though they are not read
     }
     if output.len() != 64 {
-        return 3; // all 64 samples are written
+        return refused(3); // all 64 samples are written
     }
     let w = islow_columns_top_half(input);
-    rows(&w, output);
-    0
+    clamped(rows(&w, output))
 }
 
 // The input in an array of this crate's own: of that the compiler knows that it overlaps no column, and works on several columns at once. Of
@@ -96,45 +99,41 @@ fn copied(input: &[i32]) -> [i32; 64]
 }
 
 // The 8×8 block of 32-bit numbers.
-pub fn islow_block_i32(input: &[i32], output: &mut [u8]) -> u32
-    ensures { λ r. ⌜ r ≡ status (inverseTests 64 (now (input .entry)) (now (output .entry))) ⌝ }
-    ensures { λ r. ⌜ now (output .exit) ≡ written r (block eight (now (input .entry))) (now (output .entry)) ⌝ }
+pub fn islow_block_i32(input: &[i32], output: &mut [u8]) -> Clamped
+    ensures { λ r. ⌜ r ≡ clampedAnswer (inverseTests 64 (now (input .entry)) (now (output .entry))) (blockRaised eight (now (input .entry))) (blockLowered eight (now (input .entry))) ⌝ }
+    ensures { λ r. ⌜ now (output .exit) ≡ written (r .status) (block eight (now (input .entry))) (now (output .entry)) ⌝ }
 {
     if input.len() != 64 {
-        return 1;
+        return refused(1);
     }
     if output.len() != 64 {
-        return 3;
+        return refused(3);
     }
     let block = copied(input);
     if all_fit(&block, 64) {
         let mut w = [[0i32; 8]; 8];
         columns_as_i16(&block, &mut w);
-        rows(&w, output);
-        return 0;
+        return clamped(rows(&w, output));
     }
     let w = columns_i32(&block, 8);
-    rows(&w, output);
-    0
+    clamped(rows(&w, output))
 }
 
 // The block whose rows 4..7 are zero, or count as zero: they are not read.
-pub fn islow_block_top_half_i32(input: &[i32], output: &mut [u8]) -> u32
-    ensures { λ r. ⌜ r ≡ status (inverseTests 64 (now (input .entry)) (now (output .entry))) ⌝ }
-    ensures { λ r. ⌜ now (output .exit) ≡ written r (block eight (firstRows 4 (now (input .entry)))) (now (output .entry)) ⌝ }
+pub fn islow_block_top_half_i32(input: &[i32], output: &mut [u8]) -> Clamped
+    ensures { λ r. ⌜ r ≡ clampedAnswer (inverseTests 64 (now (input .entry)) (now (output .entry))) (blockRaised eight (firstRows 4 (now (input .entry)))) (blockLowered eight (firstRows 4 (now (input .entry)))) ⌝ }
+    ensures { λ r. ⌜ now (output .exit) ≡ written (r .status) (block eight (firstRows 4 (now (input .entry)))) (now (output .entry)) ⌝ }
 {
     if input.len() != 64 {
-        return 1;
+        return refused(1);
     }
     if output.len() != 64 {
-        return 3;
+        return refused(3);
     }
     if all_fit(input, 32) {
         let w = columns_top_half_as_i16(input);
-        rows(&w, output);
-        return 0;
+        return clamped(rows(&w, output));
     }
     let w = columns_i32(input, 4);
-    rows(&w, output);
-    0
+    clamped(rows(&w, output))
 }

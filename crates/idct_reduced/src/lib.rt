@@ -7,7 +7,8 @@
 // `load_column_2`), and play no part (`four-reads`, `two-reads` of block/proofs/Unread.antt).
 //
 // Each entry answers its refusal number, 1 for an input not of 64 places, then 3 for an output of the wrong length, and then leaves the
-// output as it was; or 0, and the output holds the samples.
+// output as it was; or 0, and the output holds the samples, with how many of them the clamp raised to 0 and how many it lowered to 255
+// (document 02, card 4).
 mod four;
 mod two;
 
@@ -17,7 +18,11 @@ ghost use mir.Syntax.{w32};
 ghost use Rattle.gains.specs.Gains.{gains4};
 ghost use Rattle.passes.specs.Passes.{pass, four, two};
 ghost use Rattle.block.specs.Block.{block, inverseTests};
-ghost use Rattle.refusals.specs.Refusals.{status, written};
+ghost use Rattle.block.specs.Clamped.{blockRaised, blockLowered, clampedAnswer};
+ghost use Rattle.refusals.specs.Refusals.{written};
+use block::Clamped;
+use block_access::clamped;
+use block_access::refused;
 use islow::reduced::islow_1d_4;
 use scaling::descale_i32;
 
@@ -36,33 +41,31 @@ pub fn pass_4(p: [i32; 8], shift: u32) -> [i32; 4]
 }
 
 // The 4×4 block.
-pub fn islow_block_4x4(input: &[i16], output: &mut [u8]) -> u32
-    ensures { λ r. ⌜ r ≡ status (inverseTests 16 (now (input .entry)) (now (output .entry))) ⌝ }
-    ensures { λ r. ⌜ now (output .exit) ≡ written r (block four (now (input .entry))) (now (output .entry)) ⌝ }
+pub fn islow_block_4x4(input: &[i16], output: &mut [u8]) -> Clamped
+    ensures { λ r. ⌜ r ≡ clampedAnswer (inverseTests 16 (now (input .entry)) (now (output .entry))) (blockRaised four (now (input .entry))) (blockLowered four (now (input .entry))) ⌝ }
+    ensures { λ r. ⌜ now (output .exit) ≡ written (r .status) (block four (now (input .entry))) (now (output .entry)) ⌝ }
 {
     if input.len() != 64 {
-        return 1;
+        return refused(1);
     }
     if output.len() != 16 {
-        return 3;
+        return refused(3);
     }
     let w = crate::four::columns_4(input);
-    crate::four::rows_4(&w, output);
-    0
+    clamped(crate::four::rows_4(&w, output))
 }
 
 // The 2×2 block.
-pub fn islow_block_2x2(input: &[i16], output: &mut [u8]) -> u32
-    ensures { λ r. ⌜ r ≡ status (inverseTests 4 (now (input .entry)) (now (output .entry))) ⌝ }
-    ensures { λ r. ⌜ now (output .exit) ≡ written r (block two (now (input .entry))) (now (output .entry)) ⌝ }
+pub fn islow_block_2x2(input: &[i16], output: &mut [u8]) -> Clamped
+    ensures { λ r. ⌜ r ≡ clampedAnswer (inverseTests 4 (now (input .entry)) (now (output .entry))) (blockRaised two (now (input .entry))) (blockLowered two (now (input .entry))) ⌝ }
+    ensures { λ r. ⌜ now (output .exit) ≡ written (r .status) (block two (now (input .entry))) (now (output .entry)) ⌝ }
 {
     if input.len() != 64 {
-        return 1;
+        return refused(1);
     }
     if output.len() != 4 {
-        return 3;
+        return refused(3);
     }
     let w = crate::two::columns_2(input);
-    crate::two::rows_2(&w, output);
-    0
+    clamped(crate::two::rows_2(&w, output))
 }

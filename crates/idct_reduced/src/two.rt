@@ -12,10 +12,13 @@ ghost use mir.Syntax.{w32};
 ghost use Rattle.integers.specs.Linear.{zeroAt};
 ghost use Rattle.gains.specs.Gains.{gains2, skipped2};
 ghost use Rattle.clamping.specs.Clamping.{sampleU8};
+ghost use Rattle.clamping.specs.Counts.{counted, tallyOne};
 ghost use Rattle.passes.specs.Passes.{two, pass, columnPass, rowPass};
 ghost use Rattle.block.specs.Block.{rowOf, columns, rowSamples, without};
+ghost use Rattle.block.specs.Clamped.{itself};
 use block_access::load_column_2;
 use block_access::put_row;
+use clamping::tally::tally_i32;
 use islow::reduced::islow_1d_2;
 use passes::PASS1_SHIFT;
 use passes::PASS2_SHIFT;
@@ -81,28 +84,34 @@ fn load_row_2(w: &[[i32; 2]; 8], y: usize) -> [i32; 8]
     p
 }
 
-// Row y of the samples, from p: with the zero shortcut.
-fn row_2(output: &mut [u8], y: usize, p: [i32; 8])
+// Row y of the samples, from p: with the zero shortcut. The answer has both counts of the row in one number (`tallyOne`).
+fn row_2(output: &mut [u8], y: usize, p: [i32; 8]) -> u32
     requires { ⌜ length (now output) ≡ 4 ⌝ }
     requires { ⌜ y < 2 ⌝ }
+    ensures { λ r. ⌜ (r ≡ counted tallyOne (rowPass two p)) × (r ≤ 512) ⌝ }
     ensures { λ _. ⌜ now (output .exit) ≡ paste (now (output .entry)) (y * 2) (map sampleU8 (rowPass two p)) 2 ⌝ }
 {
     if ac_is_zero_2(p) {
-        let q = [descale_i32(p[0], DC_SHIFT); 2];
+        let value = descale_i32(p[0], DC_SHIFT);
+        let q = [value; 2];
         put_row(output, y * 2, &q);
-        return;
+        return 2 * tally_i32(value);
     }
     let q = pass_2(p, PASS2_SHIFT + 2);
     put_row(output, y * 2, &q);
+    tally_i32(q[0]) + tally_i32(q[1])
 }
 
-pub fn rows_2(w: &[[i32; 2]; 8], output: &mut [u8])
+pub fn rows_2(w: &[[i32; 2]; 8], output: &mut [u8]) -> u32
     requires { ⌜ length (now output) ≡ 4 ⌝ }
+    ensures { λ r. ⌜ r ≡ counted tallyOne (rowSamples (rowPass two) itself 2 (now (w .entry))) ⌝ }
     ensures { λ _. ⌜ now (output .exit) ≡ rowSamples (rowPass two) sampleU8 2 (now (w .entry)) ⌝ }
 {
+    let mut t = 0;
     let mut y = 0;
     while y < 2 {
-        row_2(output, y, load_row_2(w, y));
+        t += row_2(output, y, load_row_2(w, y));
         y += 1;
     }
+    t
 }

@@ -6,6 +6,7 @@
 mod canonical;
 mod canonical_12bit;
 mod canonical_record;
+mod counts;
 mod guarded;
 mod inverse;
 mod inverse_i32;

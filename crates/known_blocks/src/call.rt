@@ -7,13 +7,17 @@ use crate::case::i32_at;
 use crate::case::places;
 use crate::case::u8_at;
 use crate::show::one_if;
+use crate::show::show_counts;
 use crate::show::show_f64;
 use crate::show::show_i16;
 use crate::show::show_i32;
 use crate::show::show_one;
+use crate::show::show_rule;
 use crate::show::show_u8;
 use crate::show::show_u16;
+use crate::show::small;
 use crate::show::wide;
+use block::Clamped;
 use guarded_quantizer::Quantized;
 use libc::STDOUT_FILENO;
 use stored_blocks::Answer;
@@ -67,7 +71,7 @@ fn part_i16<'a>(room: &'a [i16; ROOM], v: &[u64; MOST], k: usize) -> &'a [i16]
     &whole[0..n]
 }
 
-fn narrow(function: usize, input: &[i16], output: &mut [u8]) -> u32 {
+fn narrow(function: usize, input: &[i16], output: &mut [u8]) -> Clamped {
     match function {
         4 => idct_8x8::islow_block(input, output),
         5 => idct_8x8::islow_block_top_half(input, output),
@@ -84,7 +88,7 @@ fn deep(function: usize, input: &[i16], output: &mut [u16]) -> u32 {
     }
 }
 
-fn wide_block(function: usize, input: &[i32], output: &mut [u8]) -> u32 {
+fn wide_block(function: usize, input: &[i32], output: &mut [u8]) -> Clamped {
     match function {
         11 => idct_8x8::islow_block_i32(input, output),
         _ => idct_8x8::islow_block_top_half_i32(input, output),
@@ -94,8 +98,9 @@ fn wide_block(function: usize, input: &[i32], output: &mut [u8]) -> u32 {
 fn narrow_to(function: usize, input: &[i16], v: &[u64; MOST]) {
     let mut room = [FILL; ROOM];
     let to = places(v, 3);
-    let status = narrow(function, input, &mut room[0..to]);
-    show_u8(status, &room);
+    let got = narrow(function, input, &mut room[0..to]);
+    show_u8(got.status, &room);
+    show_counts(got.raised, got.lowered);
 }
 
 fn deep_to(function: usize, input: &[i16], v: &[u64; MOST]) {
@@ -108,8 +113,9 @@ fn deep_to(function: usize, input: &[i16], v: &[u64; MOST]) {
 fn wide_to(function: usize, input: &[i32], v: &[u64; MOST]) {
     let mut room = [FILL; ROOM];
     let to = places(v, 3);
-    let status = wide_block(function, input, &mut room[0..to]);
-    show_u8(status, &room);
+    let got = wide_block(function, input, &mut room[0..to]);
+    show_u8(got.status, &room);
+    show_counts(got.raised, got.lowered);
 }
 
 fn wide_case(function: usize, v: &[u64; MOST]) {
@@ -240,9 +246,18 @@ fn same(input: &[i16], v: &[u64; MOST]) {
     answer(stored_blocks::same(input, part_i16(&other, v, 5)));
 }
 
+// An 8-bit block may have a second entry, behind its other numbers. A value 0, as where a line ends before, is none.
+fn second(function: usize, mut room: [i16; ROOM], v: &[u64; MOST]) -> [i16; ROOM] {
+    let value = i16_at(v, 7);
+    if function < 8 && value != 0 {
+        room[entry(v, 6)] = value;
+    }
+    room
+}
+
 // An entry, its value, and how many places the input has.
 fn block(function: usize, v: &[u64; MOST]) {
-    let room = only(v, 0);
+    let room = second(function, only(v, 0), v);
     let input = part_i16(&room, v, 2);
     match function {
         4 | 5 | 6 | 7 => narrow_to(function, input, v),
@@ -252,10 +267,17 @@ fn block(function: usize, v: &[u64; MOST]) {
     }
 }
 
+fn sample_u8(v: &[u64; MOST]) {
+    let got = clamping::sample_u8(i32_at(v, 0));
+    show_one(0, small(got.sample));
+    let rule = got.rule;
+    show_rule(rule);
+}
+
 pub fn call(function: usize, v: &[u64; MOST]) {
     match function {
         0 => descale(v),
-        1 => show_one(0, clamping::sample_u8(i32_at(v, 0)) as i32),
+        1 => sample_u8(v),
         2 => show_one(
             0,
             clamping::sample_12bit(wrapping::bits::from_bits_u64(v[0])) as i32,

@@ -1,6 +1,7 @@
 // Prints an answer: its refusal and its numbers, where equal ones that follow each other are their
 // count and the number.
 use crate::call::ROOM;
+use clamping::Rule;
 use libc::STDOUT_FILENO;
 
 // Equal numbers that follow each other. An answer starts with none, and has at least one number.
@@ -66,7 +67,29 @@ pub fn show_one(status: u32, value: i32) {
     end(Run { count: 1, value });
 }
 
-fn small(value: u8) -> i32 {
+pub fn show_rule(rule: Rule) {
+    match rule {
+        Rule::Raised => {
+            io::write_all(STDOUT_FILENO, b" | raised");
+        }
+        Rule::Lowered => {
+            io::write_all(STDOUT_FILENO, b" | lowered");
+        }
+        Rule::Within => {
+            io::write_all(STDOUT_FILENO, b" | within");
+        }
+    }
+}
+
+// How many samples were raised to 0, and how many lowered to 255.
+pub fn show_counts(raised: u32, lowered: u32) {
+    io::write_all(STDOUT_FILENO, b" | raised ");
+    io::print_decimal(STDOUT_FILENO, raised as u64);
+    io::write_all(STDOUT_FILENO, b", lowered ");
+    io::print_decimal(STDOUT_FILENO, lowered as u64);
+}
+
+pub fn small(value: u8) -> i32 {
     value as i32
 }
 

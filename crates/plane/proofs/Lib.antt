@@ -4,3 +4,4 @@ pub mod Scales
 pub mod Decoding
 pub mod Recoded
 pub mod Strips
+pub mod Counts

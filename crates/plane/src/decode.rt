@@ -1,4 +1,5 @@
-// The plane inverse (document 02, card 2), at any of its three scales: `by` is what width and height are divided by, 1, 2 or 4.
+// The plane inverse (document 02, card 2), at any of its three scales: `by` is what width and height are divided by, 1, 2 or 4. Its counts
+// are those of the blocks, added up (card 4): they count whole blocks, before anything is cropped.
 //
 // A block is decoded to a buffer and copied to the picture row by row, as far as it lies inside: no more than one block is held.
 ghost use mathlib.Core.Path.{_≡_};
@@ -7,11 +8,14 @@ ghost use lib.ListN.{length, drop};
 ghost use lib.Seq.{paste};
 ghost use Rattle.refusals.specs.Refusals.{status, written};
 ghost use Rattle.plane.specs.Scale.{full, half, quarter, cropped, clamped16, fitted, blockSamples, planeSamples, planeInverseTests, scaleBy};
+ghost use Rattle.plane.specs.Counts.{blockNumbers, planeNumbers, planeRaised, planeLowered};
 ghost use Rattle.plane.specs.Placing.{Reduction, StoredOf, Begins, Placed};
+ghost use Rattle.block.specs.Clamped.{countsOf, clampedAnswer};
 use crate::blocks_of;
 use crate::is_measured;
 use crate::lesser;
 use crate::runs::copy_run;
+use block::Clamped;
 use idct_8x8::islow_block_i32;
 use idct_reduced::islow_block_2x2;
 use idct_reduced::islow_block_4x4;
@@ -82,15 +86,17 @@ fn put_full(
     width: usize,
     height: usize,
     out: &mut [u8],
-)
+) -> Clamped
     requires { ⌜ (length (now coefficients) ≡ 64) × (length (now quant) ≡ 64) ⌝ }
     requires { ⌜ Begins (full .size .side) width height x y (now out) ⌝ }
+    ensures { λ r. ⌜ r ≡ countsOf (blockNumbers full (now (quant .entry)) (now (coefficients .entry))) ⌝ }
     ensures { λ _. ⌜ Placed (full .size .side) width height x y (blockSamples full (now (quant .entry)) (now (coefficients .entry))) (now (out .entry)) (now (out .exit)) ⌝ }
 {
     let products = products_i32(coefficients, quant);
     let mut block = [0u8; 64];
-    islow_block_i32(&products, &mut block);
+    let counts = islow_block_i32(&products, &mut block);
     put_block(&block, 8, x, y, width, height, out);
+    counts
 }
 
 fn clamped(product: i32) -> i16
@@ -128,15 +134,17 @@ fn put_half(
     width: usize,
     height: usize,
     out: &mut [u8],
-)
+) -> Clamped
     requires { ⌜ (length (now coefficients) ≡ 64) × (length (now quant) ≡ 64) ⌝ }
     requires { ⌜ Begins (half .size .side) width height x y (now out) ⌝ }
+    ensures { λ r. ⌜ r ≡ countsOf (blockNumbers half (now (quant .entry)) (now (coefficients .entry))) ⌝ }
     ensures { λ _. ⌜ Placed (half .size .side) width height x y (blockSamples half (now (quant .entry)) (now (coefficients .entry))) (now (out .entry)) (now (out .exit)) ⌝ }
 {
     let products = products_i16(coefficients, quant);
     let mut block = [0u8; 16];
-    islow_block_4x4(&products, &mut block);
+    let counts = islow_block_4x4(&products, &mut block);
     put_block(&block, 4, x, y, width, height, out);
+    counts
 }
 
 // The step for one block at quarter size.
@@ -148,15 +156,17 @@ fn put_quarter(
     width: usize,
     height: usize,
     out: &mut [u8],
-)
+) -> Clamped
     requires { ⌜ (length (now coefficients) ≡ 64) × (length (now quant) ≡ 64) ⌝ }
     requires { ⌜ Begins (quarter .size .side) width height x y (now out) ⌝ }
+    ensures { λ r. ⌜ r ≡ countsOf (blockNumbers quarter (now (quant .entry)) (now (coefficients .entry))) ⌝ }
     ensures { λ _. ⌜ Placed (quarter .size .side) width height x y (blockSamples quarter (now (quant .entry)) (now (coefficients .entry))) (now (out .entry)) (now (out .exit)) ⌝ }
 {
     let products = products_i16(coefficients, quant);
     let mut block = [0u8; 4];
-    islow_block_2x2(&products, &mut block);
+    let counts = islow_block_2x2(&products, &mut block);
     put_block(&block, 2, x, y, width, height, out);
+    counts
 }
 
 // The step for one block at the scale of `by`.
@@ -169,19 +179,20 @@ fn put_decoded(
     width: usize,
     height: usize,
     out: &mut [u8],
-)
+) -> Clamped
     requires { ⌜ Reduction by ⌝ }
     requires { ⌜ (length (now coefficients) ≡ 64) × (length (now quant) ≡ 64) ⌝ }
     requires { ⌜ Begins (scaleBy by .size .side) width height x y (now out) ⌝ }
+    ensures { λ r. ⌜ r ≡ countsOf (blockNumbers (scaleBy by) (now (quant .entry)) (now (coefficients .entry))) ⌝ }
     ensures { λ _. ⌜ Placed (scaleBy by .size .side) width height x y (blockSamples (scaleBy by) (now (quant .entry)) (now (coefficients .entry))) (now (out .entry)) (now (out .exit)) ⌝ }
 {
     if by == 1 {
-        put_full(coefficients, quant, x, y, width, height, out);
-    } else if by == 2 {
-        put_half(coefficients, quant, x, y, width, height, out);
-    } else {
-        put_quarter(coefficients, quant, x, y, width, height, out);
+        return put_full(coefficients, quant, x, y, width, height, out);
     }
+    if by == 2 {
+        return put_half(coefficients, quant, x, y, width, height, out);
+    }
+    put_quarter(coefficients, quant, x, y, width, height, out)
 }
 
 // Width or height of the picture.
@@ -201,29 +212,40 @@ fn decode_plane(
     height: usize,
     quant: &[u8],
     out: &mut [u8],
-)
+) -> Clamped
     requires { ⌜ Reduction by ⌝ }
     requires { ⌜ StoredOf (scaleBy by) (now coefficients) width height (now quant) (now out) ⌝ }
+    ensures { λ r. ⌜ r ≡ countsOf (planeNumbers (scaleBy by) (now (coefficients .entry)) width height (now (quant .entry))) ⌝ }
     ensures { λ _. ⌜ now (out .exit) ≡ planeSamples (scaleBy by) (now (coefficients .entry)) width height (now (quant .entry)) ⌝ }
 {
     let across = blocks_of(width);
     let down = blocks_of(height);
     let wide = cropped_to(width, by);
     let high = cropped_to(height, by);
+    let mut raised = 0;
+    let mut lowered = 0;
     let mut y = 0;
     while y < down {
         let mut x = 0;
         while x < across {
             let at = 64 * (across * y + x);
             let end = at + 64;
-            put_decoded(by, &coefficients[at..end], quant, x, y, wide, high, out);
+            let counts = put_decoded(by, &coefficients[at..end], quant, x, y, wide, high, out);
+            raised += counts.raised;
+            lowered += counts.lowered;
             x += 1;
         }
         y += 1;
     }
+    Clamped {
+        status: 0,
+        raised,
+        lowered,
+    }
 }
 
-fn inverse_status(
+// The number of the refusal, or 0, without writing.
+pub fn inverse_status(
     by: usize,
     coefficients: &[i16],
     width: usize,
@@ -259,15 +281,18 @@ pub fn inverse(
     height: usize,
     quant: &[u8],
     out: &mut [u8],
-) -> u32
+) -> Clamped
     requires { ⌜ Reduction by ⌝ }
-    ensures { λ r. ⌜ r ≡ status (planeInverseTests (scaleBy by) (now (coefficients .entry)) width height (now (quant .entry)) (now (out .entry))) ⌝ }
-    ensures { λ r. ⌜ now (out .exit) ≡ written r (planeSamples (scaleBy by) (now (coefficients .entry)) width height (now (quant .entry))) (now (out .entry)) ⌝ }
+    ensures { λ r. ⌜ r ≡ clampedAnswer (planeInverseTests (scaleBy by) (now (coefficients .entry)) width height (now (quant .entry)) (now (out .entry))) (planeRaised (scaleBy by) (now (coefficients .entry)) width height (now (quant .entry))) (planeLowered (scaleBy by) (now (coefficients .entry)) width height (now (quant .entry))) ⌝ }
+    ensures { λ r. ⌜ now (out .exit) ≡ written (r .status) (planeSamples (scaleBy by) (now (coefficients .entry)) width height (now (quant .entry))) (now (out .entry)) ⌝ }
 {
     let status = inverse_status(by, coefficients, width, height, quant, out);
     if status != 0 {
-        return status;
+        return Clamped {
+            status,
+            raised: 0,
+            lowered: 0,
+        };
     }
-    decode_plane(by, coefficients, width, height, quant, out);
-    0
+    decode_plane(by, coefficients, width, height, quant, out)
 }

@@ -3,7 +3,7 @@
 // A plane is at most 4096 × 4096, so every index is below 2^25 and nothing overflows (`samples-most` of proofs/Coding.antt). Forward each
 // block is copied out of the plane, its edge repeated, and coded into its own 64 places of the output; back each is decoded to a buffer
 // and copied to the picture (`decode`): no more than one block is held.
-mod decode;
+pub mod decode;
 mod runs;
 
 ghost use mathlib.Core.Path.{_≡_};
@@ -15,7 +15,10 @@ ghost use Rattle.forward.specs.Canonical.{coefficients};
 ghost use Rattle.plane.specs.Plane.{blocks, sampleAt, blockAt, blockOf, measured, planeCoefficients, forwardTests};
 ghost use Rattle.plane.specs.Ready.{PlaneOf};
 ghost use Rattle.plane.specs.Scale.{full, half, quarter, planeSamples, planeInverseTests};
+ghost use Rattle.plane.specs.Counts.{planeRaised, planeLowered};
+ghost use Rattle.block.specs.Clamped.{clampedAnswer};
 use crate::runs::copy_run;
+use block::Clamped;
 use fdct::widen;
 use fdct::write_block;
 
@@ -173,16 +176,16 @@ pub fn fdct_quantize_plane(
     0
 }
 
-// The plane inverse with 8 samples per block side.
+// The plane inverse with 8 samples per block side; like the two below it answers the counts of document 02, card 4.
 pub fn islow_plane(
     coefficients: &[i16],
     width: usize,
     height: usize,
     quant: &[u8],
     out: &mut [u8],
-) -> u32
-    ensures { λ r. ⌜ r ≡ status (planeInverseTests full (now (coefficients .entry)) width height (now (quant .entry)) (now (out .entry))) ⌝ }
-    ensures { λ r. ⌜ now (out .exit) ≡ written r (planeSamples full (now (coefficients .entry)) width height (now (quant .entry))) (now (out .entry)) ⌝ }
+) -> Clamped
+    ensures { λ r. ⌜ r ≡ clampedAnswer (planeInverseTests full (now (coefficients .entry)) width height (now (quant .entry)) (now (out .entry))) (planeRaised full (now (coefficients .entry)) width height (now (quant .entry))) (planeLowered full (now (coefficients .entry)) width height (now (quant .entry))) ⌝ }
+    ensures { λ r. ⌜ now (out .exit) ≡ written (r .status) (planeSamples full (now (coefficients .entry)) width height (now (quant .entry))) (now (out .entry)) ⌝ }
 {
     crate::decode::inverse(1, coefficients, width, height, quant, out)
 }
@@ -194,9 +197,9 @@ pub fn islow_plane_4x4(
     height: usize,
     quant: &[u8],
     out: &mut [u8],
-) -> u32
-    ensures { λ r. ⌜ r ≡ status (planeInverseTests half (now (coefficients .entry)) width height (now (quant .entry)) (now (out .entry))) ⌝ }
-    ensures { λ r. ⌜ now (out .exit) ≡ written r (planeSamples half (now (coefficients .entry)) width height (now (quant .entry))) (now (out .entry)) ⌝ }
+) -> Clamped
+    ensures { λ r. ⌜ r ≡ clampedAnswer (planeInverseTests half (now (coefficients .entry)) width height (now (quant .entry)) (now (out .entry))) (planeRaised half (now (coefficients .entry)) width height (now (quant .entry))) (planeLowered half (now (coefficients .entry)) width height (now (quant .entry))) ⌝ }
+    ensures { λ r. ⌜ now (out .exit) ≡ written (r .status) (planeSamples half (now (coefficients .entry)) width height (now (quant .entry))) (now (out .entry)) ⌝ }
 {
     crate::decode::inverse(2, coefficients, width, height, quant, out)
 }
@@ -208,9 +211,9 @@ pub fn islow_plane_2x2(
     height: usize,
     quant: &[u8],
     out: &mut [u8],
-) -> u32
-    ensures { λ r. ⌜ r ≡ status (planeInverseTests quarter (now (coefficients .entry)) width height (now (quant .entry)) (now (out .entry))) ⌝ }
-    ensures { λ r. ⌜ now (out .exit) ≡ written r (planeSamples quarter (now (coefficients .entry)) width height (now (quant .entry))) (now (out .entry)) ⌝ }
+) -> Clamped
+    ensures { λ r. ⌜ r ≡ clampedAnswer (planeInverseTests quarter (now (coefficients .entry)) width height (now (quant .entry)) (now (out .entry))) (planeRaised quarter (now (coefficients .entry)) width height (now (quant .entry))) (planeLowered quarter (now (coefficients .entry)) width height (now (quant .entry))) ⌝ }
+    ensures { λ r. ⌜ now (out .exit) ≡ written (r .status) (planeSamples quarter (now (coefficients .entry)) width height (now (quant .entry))) (now (out .entry)) ⌝ }
 {
     crate::decode::inverse(4, coefficients, width, height, quant, out)
 }

@@ -8,8 +8,9 @@ use crate::encode::Answer;
 use crate::encode::bytes_i32;
 use crate::encode::bytes_u16;
 use crate::encode::number;
+use block::Clamped;
 
-fn narrow(function: usize, input: &[i16], output: &mut [u8]) -> u32 {
+fn narrow(function: usize, input: &[i16], output: &mut [u8]) -> Clamped {
     match function {
         22 | 41 => idct_8x8::islow_block(input, output),
         24 => idct_8x8::islow_block_top_half(input, output),
@@ -26,7 +27,7 @@ fn deep(function: usize, input: &[i16], output: &mut [u16]) -> u32 {
     }
 }
 
-fn wide(function: usize, input: &[i32], output: &mut [u8]) -> u32 {
+fn wide(function: usize, input: &[i32], output: &mut [u8]) -> Clamped {
     match function {
         23 => idct_8x8::islow_block_i32(input, output),
         _ => idct_8x8::islow_block_top_half_i32(input, output),
@@ -38,9 +39,9 @@ pub fn narrow_block(function: usize, case: &[u8; ROOM], size: usize) -> Answer
 {
     let input = block_i16(case, 0);
     let mut bytes = [0u8; ROOM];
-    let status = narrow(function, &input, &mut bytes[0..size]);
+    let got = narrow(function, &input, &mut bytes[0..size]);
     Answer {
-        status,
+        status: got.status,
         size,
         bytes,
     }
@@ -58,9 +59,9 @@ pub fn deep_block(function: usize, case: &[u8; ROOM], samples: usize) -> Answer
 pub fn wide_block(function: usize, case: &[u8; ROOM]) -> Answer {
     let input = block_i32(case);
     let mut bytes = [0u8; ROOM];
-    let status = wide(function, &input, &mut bytes[0..64]);
+    let got = wide(function, &input, &mut bytes[0..64]);
     Answer {
-        status,
+        status: got.status,
         size: 64,
         bytes,
     }

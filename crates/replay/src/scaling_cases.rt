@@ -16,7 +16,7 @@ pub fn scaled(function: usize, case: &[u8; ROOM]) -> Answer {
     let value = i32_at(case, 0);
     match function {
         7 => number(0, 4, bits_i32(scaling::islow_dc(value))),
-        8 => number(0, 1, clamping::sample_u8(value) as u64),
+        8 => number(0, 1, clamping::sample_u8(value).sample as u64),
         9 => number(0, 4, bits_i32(clamping::sample_centered(value))),
         _ => number(0, 2, clamping::sample_12bit(i64_at(case, 0)) as u64),
     }

@@ -1,27 +1,31 @@
 -- `idct_8x8::islow_block_top_half` meets its contract. Assumes nothing.
 use borrow.Author.Needs.{needs}
+use lib.Dec.{lit≤}
 use Rattle.passes.specs.Passes.{eight}
+use Rattle.refusals.proofs.Refusals.{has, lacks, _then_}
 use Rattle.block.specs.Block.{firstRows}
-use Rattle.refusals.proofs.Refusals.{has, lacks, _then_, refused, accepted}
-use Rattle.block.proofs.Rows.{block-read}
+use Rattle.block.proofs.Counts.{refused-counts, columns-answered}
 use Rattle.idct_8x8.proofs.islow_block_top_half.Statement.{statement}
 use Rattle.idct_8x8.proofs.islow_block_top_half.Tie as tie
 
 returns : tie.Need-returns-3
 unfolding eight
 returns c =
-    let stored = c .before .before in
+    let stored = c .before .before .before in
     let made = stored .before .before .before in
     let tested = made .before in
     let xs = tested .before .before .before .args .input .now in
-    accepted _ _ _ (has (tested .before .if1 .left) then has (tested .if2 .left) then tt) (block-read eight (firstRows 4 xs) (made .islow-columns-top-half .ensures) (stored .rows .ensures))
+    columns-answered eight (firstRows 4 xs) _ _ (lit≤ tt) (has (tested .before .if1 .left) then has (tested .if2 .left) then tt) (c .clamped .ensures) (made .islow-columns-top-half .ensures) (stored .rows .ensures)
 
 pub islow-block-top-half-spec : {M : Type 1} → statement M
 islow-block-top-half-spec =
     tie.close
     (tie.spec
-    (λ c. refused _ _ _ 0 (lacks (c .if1 .taken) then tt))
-    (λ c. refused _ _ _ 1 (has (c .before .if1 .left) then lacks (c .if2 .taken) then tt))
+    (λ c κs. search needs)
+    (λ c. refused-counts _ _ _ _ _ 0 (lacks (c .before .if1 .taken) then tt) (c .refused .ensures))
+    (λ c κs. search needs)
+    (λ c. refused-counts _ _ _ _ _ 1 (has (c .before .before .if1 .left) then lacks (c .before .if2 .taken) then tt) (c .refused2 .ensures))
+    (λ c κs. search needs)
     (λ c κs. search needs)
     (λ c κs. search needs)
     (λ c. search needs)

@@ -7,6 +7,7 @@ use Rattle.integers.specs.Fits16.{Fits16}
 use Rattle.lists.specs.Every.{Every}
 use Rattle.forward.specs.Canonical.{Bytes}
 use Rattle.bounds.specs.Demand3.{products}
+use Rattle.block.proofs.Counts.{answer-status}
 use Rattle.bounds.proofs.Theorem.{demand-3}
 use Rattle.bounds.proofs.Calls.{length-products, lengths, coded, multiplied, inverted, compared, all-refused, all-done}
 use Rattle.round_trip.proofs.round_trip.Statement.{statement}
@@ -61,7 +62,7 @@ returns-2 c =
     let q = multiply made in
     let p = put .write-i16 .ensures ∙ q in
     all-done _ _ _ _ _ _ _ _ _ _ (tested .before .lengths-status .ensures) (tested .if1 .left) (bytes-quant tested) (bytes-a tested) (bytes-b tested) (compared 128 _ _ _ ca cb (c .same .ensures))
-    ca cb p (inverted _ _ _ p (long .6) (back .islow-block .ensures)) q (inverted _ _ _ q (long .8) (back-i32 .islow-block-i32 .ensures))
+    ca cb p (inverted _ _ _ p (long .6) (answer-status _ _ _ (back .islow-block .ensures .0), back .islow-block .ensures .1)) q (inverted _ _ _ q (long .8) (answer-status _ _ _ (back-i32 .islow-block-i32 .ensures .0), back-i32 .islow-block-i32 .ensures .1))
 
 pub round-trip-spec : {M : Type 1} → statement M
 round-trip-spec =

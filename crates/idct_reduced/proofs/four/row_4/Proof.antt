@@ -1,26 +1,48 @@
 -- `idct_reduced::four::row_4` meets its contract. Assumes nothing.
-use Prim.Native.Nat.{_*_}
+use mathlib.Core.Path.{_≡_, refl, ap, _∙_}
+use mathlib.Core.List.{List, [], _∷_}
+use native.Mathlib.Omega.{arith}
 use borrow.Author.Needs.{needs}
+use lib.ListN.{length, set}
+use lib.IntN.{ℤ, pos}
+use mir.Syntax.{w32}
+use mir.ValLaws.{toZ-ofZ}
+use Rattle.lists.specs.Tab.{tab}
+use Rattle.lists.proofs.Tab.{tab-getD}
+use Rattle.scaling.proofs.Rounding.{descaled-read}
 use Rattle.passes.specs.Passes.{four}
-use Rattle.passes.proofs.Steps.{four-rows}
-use Rattle.block.proofs.Rows.{stored-zero, stored-full}
+use Rattle.passes.proofs.Steps.{four-rows, length-row, zero-row, full-row}
 use Rattle.idct_reduced.proofs.four.row_4.Statement.{statement}
 use Rattle.idct_reduced.proofs.four.row_4.Tie as tie
+
+all-set : (q : List ℤ) (a b c d : ℤ) → length q ≡ 4 → set (set (set (set q 0 a) 1 b) 2 c) 3 d ≡ a ∷ b ∷ c ∷ d ∷ []
+all-set (p ∷ q ∷ r ∷ s ∷ []) a b c d l = refl
+all-set [] a b c d l = absurd (omega arith)
+all-set (p ∷ []) a b c d l = absurd (omega arith)
+all-set (p ∷ q ∷ []) a b c d l = absurd (omega arith)
+all-set (p ∷ q ∷ r ∷ []) a b c d l = absurd (omega arith)
+all-set (p ∷ q ∷ r ∷ s ∷ t ∷ u) a b c d l = absurd (omega arith)
 
 returns : tie.Need-returns
 unfolding four
 returns c =
-    let call = c .before .before in let scaled = call .before .before .before in let branch = scaled .before .before in let a = branch .before .before .before .args in
-    stored-zero four four-rows (a .output .now) (a .y * 4) (a .t3) (branch .before .ac-is-zero-4 .ensures) (branch .if1 .taken) (scaled .before .descale-i32-arg .given) (scaled .descale-i32 .ensures) (call .put-row .ensures)
+    let branch = c .before .before in let s = branch .before .before in
+    let value = descaled-read w32 5 (record { sfits = c .before .descale-i32-arg .given }) (c .descale-i32 .ensures) in
+    all-set (s .args .q .now) _ _ _ _ (s .pre) ∙ zero-row four (s .args .t2) (branch .before .ac-is-zero-4 .ensures) (branch .if1 .taken) value
 
 returns-2 : tie.Need-returns-2
-unfolding four
+unfolding four tab
 returns-2 c =
-    let call = c .before .before in let made = call .before .before .before in let branch = made .before in let a = branch .before .before .before .args in
-    stored-full four four-rows (a .output .now) (a .y * 4) (a .t3) (branch .before .ac-is-zero-4 .ensures) (branch .if1 .left) (made .pass-4 .ensures) (call .put-row2 .ensures)
+    let q3 = c .before in let q2 = q3 .before in let q1 = q2 .before in let made = q1 .before in let branch = made .before in let s = branch .before .before in
+    let row = full-row four (s .args .t2) (branch .before .ac-is-zero-4 .ensures) (branch .if1 .left) (made .pass-4 .ensures) in
+    let x0 = toZ-ofZ w32 _ (record { sfits = q1 .q .given }) in
+    let x1 = toZ-ofZ w32 _ (record { sfits = q2 .q2 .given }) in
+    let x2 = toZ-ofZ w32 _ (record { sfits = q3 .q3 .given }) in
+    let x3 = toZ-ofZ w32 _ (record { sfits = c .q4 .given }) in
+    all-set (s .args .q .now) _ _ _ _ (s .pre) ∙ (λ i. x0 i ∷ x1 i ∷ x2 i ∷ x3 i ∷ []) ∙ tab-getD (pos 0) (made .pass-4 .result) 4 (ap length row ∙ length-row four _ four-rows) ∙ row
 
 pub row-4-spec : {M : Type 1} → statement M
 row-4-spec =
     tie.close
-    (tie.spec (λ c κs. search needs) (λ c. search needs) (λ c κs. search needs) (λ c. search needs) (λ c. search needs) (λ c κs. search needs) (λ c. search needs) returns
-    (λ c. search needs) (λ c κs. search needs) (λ c. search needs) (λ c. search needs) (λ c κs. search needs) (λ c. search needs) returns-2)
+    (tie.spec (λ c κs. search needs) (λ c. search needs) (λ c κs. search needs) (λ c. search needs) (λ c. search needs) (λ c. search needs) (λ c. search needs) returns
+    (λ c. search needs) (λ c κs. search needs) (λ c. search needs) (λ c. search needs) (λ c. search needs) (λ c. search needs) (λ c. search needs) (λ c. search needs) (λ c. search needs) (λ c. search needs) returns-2)

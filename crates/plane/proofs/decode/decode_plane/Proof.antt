@@ -8,30 +8,31 @@ use Rattle.lists.proofs.Parts.{length-lent}
 use Rattle.plane.specs.Scale.{scaleBy}
 use Rattle.plane.proofs.Scales.{cropping}
 use Rattle.plane.proofs.Placing.{blocks-same}
+use Rattle.plane.proofs.Counts.{Sums, sums-none, sums-same, sums-more, sums-few, sums-all}
 use Rattle.plane.proofs.Decoding.{Decoded, BlockRoom, block-room, picture-long, decoded-none, begins, decoded-more, decoded-all}
 use Rattle.plane.proofs.decode.decode_plane.Statement.{statement}
 use Rattle.plane.proofs.decode.decode_plane.Tie as tie
 
 abbrev Inv-loop2 : tie.InvT-loop2
-Inv-loop2 by coefficients width height quant out₀ across down wide high y x₀ out x = (x ≤ across) × Decoded (scaleBy by) coefficients width wide high quant (across * y + x) out
+Inv-loop2 by coefficients width height quant out₀ across down wide high raised₀ lowered₀ y x₀ out raised lowered x = (x ≤ across) × (Decoded (scaleBy by) coefficients width wide high quant (across * y + x) out × Sums (scaleBy by) coefficients quant (across * y + x) raised lowered)
 
 abbrev μ-loop2 : tie.MeasureT-loop2
-μ-loop2 by coefficients width height quant out₀ across down wide high y x₀ out x = across - x
+μ-loop2 by coefficients width height quant out₀ across down wide high raised₀ lowered₀ y x₀ out raised lowered x = across - x
 
 abbrev Inv-loop : tie.InvT-loop
-Inv-loop by coefficients width height quant out₀ across down wide high y₀ out y = (y ≤ down) × Decoded (scaleBy by) coefficients width wide high quant (across * y) out
+Inv-loop by coefficients width height quant out₀ across down wide high raised₀ lowered₀ y₀ out raised lowered y = (y ≤ down) × (Decoded (scaleBy by) coefficients width wide high quant (across * y) out × Sums (scaleBy by) coefficients quant (across * y) raised lowered)
 
 abbrev μ-loop : tie.MeasureT-loop
-μ-loop by coefficients width height quant out₀ across down wide high y₀ out y = down - y
+μ-loop by coefficients width height quant out₀ across down wide high raised₀ lowered₀ y₀ out raised lowered y = down - y
 
 loop-holds : tie.Need-loop-holds Inv-loop2 μ-loop2 Inv-loop μ-loop
 loop-holds c =
     let s = c .before .before .before .before .before .before in
     let a = c .before .before .before .blocks-of .result in
-    (omega arith, blocks-same _ _ _ _ _ (decoded-none (cropping (s .pre .0)) (s .pre .1) (c .before .cropped-to .ensures .0) (c .cropped-to2 .ensures .0)) (sym (mul-zero a)))
+    (omega arith, (blocks-same _ _ _ _ _ (decoded-none (cropping (s .pre .0)) (s .pre .1) (c .before .cropped-to .ensures .0) (c .cropped-to2 .ensures .0)) (sym (mul-zero a)), sums-same (sums-none _ _ _) (sym (mul-zero a))))
 
 loop2-holds : tie.Need-loop2-holds Inv-loop2 μ-loop2 Inv-loop μ-loop
-loop2-holds c = (omega arith, blocks-same _ _ _ _ _ (c .before .loop .inv .1) (omega arith))
+loop2-holds c = let i = c .before .loop .inv .1 in (omega arith, (blocks-same _ _ _ _ _ (i .0) (omega arith), sums-same (i .1) (omega arith)))
 
 -- the numbers of a turn
 room : (c : tie.In-loop2 Inv-loop2 μ-loop2 Inv-loop μ-loop) →
@@ -50,26 +51,47 @@ put-decoded-requires c κs =
     let t = i .before .before in
     let w = t .before .before in
     let s = w .before .before .before .before .before .before in
-    (s .pre .0, ((length-lent _ _ _ (room i .read), s .pre .1 .quant-long), begins (cropping (s .pre .0)) (s .pre .1) (w .before .cropped-to .ensures .0) (w .cropped-to2 .ensures .0) (w .before .before .before .blocks-of .ensures .0) (i .loop2-test .taken) (omega (arith, w .before .before .blocks-of2 .ensures .0)) (i .before .loop2 .inv .1)))
+    (s .pre .0, ((length-lent _ _ _ (room i .read), s .pre .1 .quant-long), begins (cropping (s .pre .0)) (s .pre .1) (w .before .cropped-to .ensures .0) (w .cropped-to2 .ensures .0) (w .before .before .before .blocks-of .ensures .0) (i .loop2-test .taken) (omega (arith, w .before .before .blocks-of2 .ensures .0)) (i .before .loop2 .inv .1 .0)))
+
+-- the counts after a turn, and that they fit
+few : (c : tie.After-put-decoded Inv-loop2 μ-loop2 Inv-loop μ-loop) →
+    (let l = c .before .before .before .before .loop2 in (l .raised + c .put-decoded .result .raised ≤ 64 * (512 * 512)) × (l .lowered + c .put-decoded .result .lowered ≤ 64 * (512 * 512)))
+few c =
+    let i = c .before .before .before in
+    let s = i .before .before .before .before .before .before .before .before .before .before in
+    let r = room i in
+    let m = sums-few (cropping (s .pre .0)) (sums-more (i .before .loop2 .inv .1 .1) (r .read) (c .put-decoded .ensures .0)) in
+    (omega (arith, m .0, r), omega (arith, m .1, r))
 
 loop2-again : tie.Need-loop2-again Inv-loop2 μ-loop2 Inv-loop μ-loop
 loop2-again c =
-    let i = c .before .before .before .before .before in
+    let put = c .before .before .before .before in
+    let i = put .before .before .before in
     let t = i .before .before in
     let w = t .before .before in
     let s = w .before .before .before .before .before .before in
-    (omega arith, blocks-same _ _ _ _ _ (decoded-more (cropping (s .pre .0)) (s .pre .1) (w .before .cropped-to .ensures .0) (w .cropped-to2 .ensures .0) (w .before .before .before .blocks-of .ensures .0) (i .loop2-test .taken) (omega (arith, w .before .before .blocks-of2 .ensures .0)) (i .before .loop2 .inv .1) (c .before .before .put-decoded .ensures)) (omega arith))
+    let v = i .before .loop2 .inv .1 in
+    let e = put .put-decoded .ensures in (
+      omega arith,
+      (
+        blocks-same _ _ _ _ _ (decoded-more (cropping (s .pre .0)) (s .pre .1) (w .before .cropped-to .ensures .0) (w .cropped-to2 .ensures .0) (w .before .before .before .blocks-of .ensures .0) (i .loop2-test .taken) (omega (arith, w .before .before .blocks-of2 .ensures .0)) (v .0) (e .1)) (omega arith),
+        sums-same (sums-more (v .1) (room i .read) (e .0)) (omega arith),
+      ),
+    )
 
 -- a row of blocks is written
 row : (a x y : ℕ) → x ≤ a → a ≤ x → a * y + x ≡ a * (y + 1)
 row a x y l m = omega (arith, mul-add a y 1)
 
 loop-again : tie.Need-loop-again Inv-loop2 μ-loop2 Inv-loop μ-loop
-loop-again c = (omega arith, blocks-same _ _ _ _ _ (c .before .loop2 .inv .1) (row _ _ _ (c .before .loop2 .inv .0) (c .loop2-test .left)))
+loop-again c =
+    let i = c .before .loop2 .inv in
+    let e = row _ _ _ (i .0) (c .loop2-test .left) in
+    (omega arith, (blocks-same _ _ _ _ _ (i .1 .0) e, sums-same (i .1 .1) e))
 
 -- and all rows
-all-rows : {a d y n m : ℕ} → a ≡ n → d ≡ m → d ≤ y → n * m ≤ a * y
-all-rows {a} {d} {y} {n} {m} e f l = rw (← e, ← f) (mul-le-mul-left a l)
+all-rows : {a d y n m : ℕ} → a ≡ n → d ≡ m → y ≤ d → d ≤ y → a * y ≡ n * m
+all-rows {a} {d} {y} {n} {m} e f u l = let t : y ≡ d = omega arith in λ i. e i * (t ∙ f) i
 
 returns : tie.Need-returns Inv-loop2 μ-loop2 Inv-loop μ-loop
 returns c =
@@ -78,15 +100,15 @@ returns c =
     let s = w .before .before .before .before .before .before in
     let ea = w .before .before .before .blocks-of .ensures .0 in
     let ed = w .before .before .blocks-of2 .ensures .0 in
-    decoded-all (cropping (s .pre .0)) (s .pre .1) (w .before .cropped-to .ensures .0) (w .cropped-to2 .ensures .0) (l .loop .inv .1)
-    (all-rows ea ed (c .loop-test .left))
+    let all = all-rows ea ed (l .loop .inv .0) (c .loop-test .left) in
+    (sums-all _ _ (l .loop .inv .1 .1) all, decoded-all (cropping (s .pre .0)) (s .pre .1) (w .before .cropped-to .ensures .0) (w .cropped-to2 .ensures .0) (l .loop .inv .1 .0) (omega (arith, all)))
 
 same-length : tie.Need-same-length Inv-loop2 μ-loop2 Inv-loop μ-loop
 same-length c =
     let l = c .before in
     let w = l .before in
     let s = w .before .before .before .before .before .before in
-    l .loop .inv .1 .long ∙ sym (picture-long (cropping (s .pre .0)) (s .pre .1) (w .before .cropped-to .ensures .0) (w .cropped-to2 .ensures .0))
+    l .loop .inv .1 .0 .long ∙ sym (picture-long (cropping (s .pre .0)) (s .pre .1) (w .before .cropped-to .ensures .0) (w .cropped-to2 .ensures .0))
 
 pub decode-plane-spec : {M : Type 1} → statement M
 decode-plane-spec =
@@ -111,7 +133,9 @@ decode-plane-spec =
     (λ c. omega arith)
     (λ c. room c .read)
     put-decoded-requires
-    (λ c. let i = c .before .before .before .before .before in record { fits = omega (arith, i .loop2-test .taken, i .before .before .before .before .before .before .before .blocks-of .ensures .1) })
+    (λ c. record { fits = omega (arith, few (c .before .before .before)) })
+    (λ c. record { fits = omega (arith, few (c .before .before .before .before)) })
+    (λ c. let i = c .before .before .before .before .before .before .before in record { fits = omega (arith, i .loop2-test .taken, i .before .before .before .before .before .before .before .blocks-of .ensures .1) })
     (λ c. omega arith)
     loop2-again
     (λ c. let t = c .before .before in record { fits = omega (arith, t .loop-test .taken, t .before .before .before .before .blocks-of2 .ensures .1) })

@@ -3,6 +3,7 @@ use mathlib.Core.Path.{sym}
 use borrow.Author.Needs.{needs}
 use Rattle.plane.specs.Scale.{scaleBy}
 use Rattle.plane.proofs.Scales.{reduction-else, begins-by, placed-by}
+use Rattle.plane.proofs.Counts.{counts-by}
 use Rattle.plane.proofs.decode.put_decoded.Statement.{statement}
 use Rattle.plane.proofs.decode.put_decoded.Tie as tie
 
@@ -28,23 +29,29 @@ returns : tie.Need-returns
 unfolding scaleBy
 returns c =
     let t = c .before .before .before .before in
-    let s = t .before .before .before in
-    placed-by (s .args .quant .now) (s .args .coefficients .now) (sym (t .if1 .taken)) (c .before .before .put-full .ensures)
+    let s = t .before .before .before in (
+      counts-by (s .args .quant .now) (s .args .coefficients .now) (sym (t .if1 .taken)) (c .before .before .put-full .ensures .0),
+      placed-by (s .args .quant .now) (s .args .coefficients .now) (sym (t .if1 .taken)) (c .before .before .put-full .ensures .1),
+    )
 
 returns-2 : tie.Need-returns-2
 unfolding scaleBy
 returns-2 c =
     let t = c .before .before .before .before in
-    let s = t .before .before .before .before in
-    placed-by (s .args .quant .now) (s .args .coefficients .now) (sym (t .if2 .taken)) (c .before .before .put-half .ensures)
+    let s = t .before .before .before .before in (
+      counts-by (s .args .quant .now) (s .args .coefficients .now) (sym (t .if2 .taken)) (c .before .before .put-half .ensures .0),
+      placed-by (s .args .quant .now) (s .args .coefficients .now) (sym (t .if2 .taken)) (c .before .before .put-half .ensures .1),
+    )
 
 returns-3 : tie.Need-returns-3
 unfolding scaleBy
 returns-3 c =
     let t = c .before .before .before .before in
-    let s = t .before .before .before .before in
-    placed-by (s .args .quant .now) (s .args .coefficients .now) (sym (reduction-else (s .pre .0) (t .before .if1 .left) (t .if2 .left))) (c .before .before .put-quarter .ensures)
+    let s = t .before .before .before .before in (
+      counts-by (s .args .quant .now) (s .args .coefficients .now) (sym (reduction-else (s .pre .0) (t .before .if1 .left) (t .if2 .left))) (c .before .before .put-quarter .ensures .0),
+      placed-by (s .args .quant .now) (s .args .coefficients .now) (sym (reduction-else (s .pre .0) (t .before .if1 .left) (t .if2 .left))) (c .before .before .put-quarter .ensures .1),
+    )
 
 pub put-decoded-spec : {M : Type 1} → statement M
 put-decoded-spec =
-    tie.close (tie.spec put-full-requires put-half-requires put-quarter-requires (λ c. search needs) returns (λ c. search needs) returns-2 (λ c. search needs) returns-3)
+    tie.close (tie.spec put-full-requires (λ c. search needs) returns put-half-requires (λ c. search needs) returns-2 put-quarter-requires (λ c. search needs) returns-3)

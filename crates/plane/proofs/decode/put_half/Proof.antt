@@ -1,12 +1,17 @@
 -- `plane::decode::put_half` meets its contract. Assumes nothing.
 use mathlib.Core.Path.{_≡_, refl, ap, _∙_}
+use mathlib.Core.List.{List}
 use borrow.Author.Needs.{needs}
 use lib.ListN.{length}
+use lib.IntN.{ℤ}
 use Rattle.lists.proofs.Tab.{length-tab}
 use Rattle.refusals.proofs.Refusals.{has, _then_, left}
 use Rattle.passes.specs.Passes.{four}
 use Rattle.block.specs.Block.{block}
+use Rattle.block.specs.Clamped.{unclamped, blockRaised, blockLowered, countsOf}
+use Rattle.block.proofs.Counts.{answer-status, answer-left}
 use Rattle.plane.specs.Scale.{half, fitted, blockSamples}
+use Rattle.plane.specs.Counts.{blockNumbers}
 use Rattle.plane.proofs.Placing.{placed-same}
 use Rattle.plane.proofs.Scales.{length-samples}
 use Rattle.plane.proofs.decode.put_half.Statement.{statement}
@@ -17,7 +22,15 @@ made : (c : tie.After-islow-block-4x4) → (let s = c .before .before .before .b
 unfolding blockSamples fitted
 made c =
     let ps = c .before .before .before .products-i16 .ensures in
-    left _ _ _ (has (ap length ps ∙ length-tab 64 _) then has {a = 16} refl then tt) (c .islow-block-4x4 .ensures) ∙ ap (block four) ps
+    let called = c .islow-block-4x4 .ensures in
+    left _ _ _ (has (ap length ps ∙ length-tab 64 _) then has {a = 16} refl then tt) (answer-status _ _ _ (called .0), called .1) ∙ ap (block four) ps
+
+-- and its counts
+counted : (c : tie.After-islow-block-4x4) → (let s = c .before .before .before .before .before .before in c .islow-block-4x4 .result ≡ countsOf (blockNumbers half (s .args .quant .now) (s .args .coefficients .now)))
+unfolding blockNumbers blockRaised blockLowered fitted
+counted c =
+    let ps = c .before .before .before .products-i16 .ensures in
+    answer-left _ _ (has (ap length ps ∙ length-tab 64 _) then has {a = 16} refl then tt) (c .islow-block-4x4 .ensures .0) ∙ ap (λ (xs : List ℤ). countsOf (unclamped four xs)) ps
 
 put-block-requires : tie.Need-put-block-requires
 unfolding four
@@ -29,7 +42,8 @@ returns : tie.Need-returns
 unfolding four
 returns c =
     let p = c .before .before in
-    placed-same (made (p .before .before .before .before)) (p .put-block .ensures)
+    let b = p .before .before .before .before in
+    (counted b, placed-same (made b) (p .put-block .ensures))
 
 pub put-half-spec : {M : Type 1} → statement M
 put-half-spec =
