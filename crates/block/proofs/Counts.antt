@@ -53,6 +53,12 @@ unfolding counted
 counted-tally [] = refl
 counted-tally (v ∷ vs) = omega (arith, counted-tally vs)
 
+pub tally-apart : (vs : List ℤ) {t : ℕ} → length vs ≤ 64 → t ≡ counted tallyOne vs → (t % 256 ≡ counted raisedOne vs) × (t / 256 ≡ counted loweredOne vs)
+tally-apart vs {t} few e =
+    let fact : t ≡ counted raisedOne vs + 256 * counted loweredOne vs = e ∙ counted-tally vs in
+    let least = counted-most raisedOne 1 raised-most vs in
+    (omega arith, omega arith)
+
 -- ---- rows of n numbers, one after the other
 
 unfoldable pub added : List ℕ → ℕ
@@ -131,6 +137,11 @@ pub counts-read : (z : Size) (xs : List ℤ) {cols : List (List ℤ)} {t : ℕ} 
 unfolding unclamped samples
 counts-read z xs e h = h ∙ ap (λ (c : List (List ℤ)). counted tallyOne (rowSamples (rowPass z) itself (z .side) c)) e
 
+-- both, of a block
+pub columns-made : (z : Size) (xs : List ℤ) {cols : List (List ℤ)} {t : ℕ} {out : List ℕ} → cols ≡ columns (columnPass z) xs →
+    (t ≡ counted tallyOne (rowSamples (rowPass z) itself (z .side) cols)) × (out ≡ rowSamples (rowPass z) sampleU8 (z .side) cols) → (t ≡ counted tallyOne (unclamped z xs)) × (out ≡ block z xs)
+columns-made z xs e f = (counts-read z xs e (f .0), block-read z xs e (f .1))
+
 pub length-unclamped : (z : Size) (xs : List ℤ) → length (unclamped z xs) ≡ z .side * z .side
 unfolding unclamped samples rowSamples
 length-unclamped z xs = length-tab (z .side * z .side) _
@@ -161,11 +172,8 @@ module _ {A : Type 0} (value held : A) (ts : List Test) where
   unfolding clampedAnswer
   accepted-counts vs {t} few h e f v =
       let number = passed ts h in
-      let fact : t ≡ counted raisedOne vs + 256 * counted loweredOne vs = e ∙ counted-tally vs in
-      let least = counted-most raisedOne 1 raised-most vs in
-      let raised : t % 256 ≡ counted raisedOne vs = omega arith in
-      let lowered : t / 256 ≡ counted loweredOne vs = omega arith in
-      (f ∙ (λ i. record { status = number i; raised = wrote _ 0 (sym number) raised i; lowered = wrote _ 0 (sym number) lowered i }), rw f (wrote value held refl v))
+      let apart = tally-apart vs few e in
+      (f ∙ (λ i. record { status = number i; raised = wrote _ 0 (sym number) (apart .0) i; lowered = wrote _ 0 (sym number) (apart .1) i }), rw f (wrote value held refl v))
 
 -- a block whose samples and counts are those of xs, and one by its columns
 module _ (z : Size) (xs : List ℤ) (held : List ℕ) (ts : List Test) (few : z .side * z .side ≤ 64) (h : Passed ts) {t : ℕ} {r : Clamped} {out : List ℕ} (answer : r ≡ clampedBy t) where
@@ -175,14 +183,14 @@ module _ (z : Size) (xs : List ℤ) (held : List ℕ) (ts : List Test) (few : z 
 
   pub columns-answered : {cols : List (List ℤ)} → cols ≡ columns (columnPass z) xs → (t ≡ counted tallyOne (rowSamples (rowPass z) itself (z .side) cols)) × (out ≡ rowSamples (rowPass z) sampleU8 (z .side) cols) →
       (r ≡ clampedAnswer ts (blockRaised z xs) (blockLowered z xs)) × (out ≡ written (r .status) (block z xs) held)
-  columns-answered e f = block-answered (counts-read z xs e (f .0)) (block-read z xs e (f .1))
+  columns-answered e f = let made = columns-made z xs e f in block-answered (made .0) (made .1)
 
--- what a call answered whose tests its caller knows to pass
-pub answer-left : (ts : List Test) (vs : List ℤ) {r : Clamped} → Passed ts → r ≡ clampedAnswer ts (counted raisedOne vs) (counted loweredOne vs) → r ≡ countsOf vs
-unfolding clampedAnswer countsOf written
-answer-left ts vs h e = e ∙ ap (λ (s : ℕ). record { status = s; raised = written s (counted raisedOne vs) 0; lowered = written s (counted loweredOne vs) 0 }) (sym (passed ts h))
+-- the answer of samples that were written, of the number that has both counts
+pub tally-answered : (vs : List ℤ) {t : ℕ} {r : Clamped} → length vs ≤ 64 → t ≡ counted tallyOne vs → r ≡ clampedBy t → r ≡ countsOf vs
+unfolding countsOf
+tally-answered vs few e f = let apart = tally-apart vs few e in f ∙ (λ i. record { status = 0; raised = apart .0 i; lowered = apart .1 i })
 
--- and what it answers then, handed on
+-- what a call answers whose tests pass, handed on
 pub answer-handed : (ts : List Test) (vs : List ℤ) {r : Clamped} → 0 ≡ status ts → r ≡ countsOf vs → r ≡ clampedAnswer ts (counted raisedOne vs) (counted loweredOne vs)
 unfolding clampedAnswer countsOf written
 answer-handed ts vs h e = e ∙ ap (λ (s : ℕ). record { status = s; raised = written s (counted raisedOne vs) 0; lowered = written s (counted loweredOne vs) 0 }) h

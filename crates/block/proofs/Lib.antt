@@ -6,4 +6,5 @@ pub mod Load
 pub mod Store
 pub mod Rows
 pub mod Counts
+pub mod Level
 pub mod Steps

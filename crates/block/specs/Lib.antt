@@ -1,3 +1,4 @@
 pub mod Block
 pub mod Clamped
 pub mod Bound
+pub mod Level

@@ -1,9 +1,11 @@
 // The inverse blocks' loads of columns and rows and stores of samples (idct.rs, `column_of`, `row_of` and the loops of the `islow_block`
 // functions; document 01, "The inverse blocks").
 //
-// A block comes in natural order; what the column pass gives is held by columns. Nothing is computed here: a number of 16 bits is
-// loaded as it is (`Fits16`), `sample_u8` and `sample_12bit` clamp what is stored, and `clamped` takes two counts apart. A helper requires what its callers have tested;
-// the entries refuse.
+// A block comes in natural order; what the column pass gives is held by columns. Nothing is computed here but what a block of DC alone
+// gives (`level`): a number of 16 bits is loaded as it is (`Fits16`), `sample_u8` and `sample_12bit` clamp what is stored, and `clamped`
+// takes two counts apart. A helper requires what its callers have tested; the entries refuse.
+pub mod level;
+
 ghost use mathlib.Core.Path.{_≡_};
 ghost use mathlib.Core.List.{map};
 ghost use Prim.Native.Nat.{_+_, _*_, _≤_, _<_};
@@ -27,7 +29,7 @@ fn widen(x: i16) -> i32
 }
 
 // Entry v of column u.
-fn coefficient(input: &[i16], v: usize, u: usize) -> i32
+pub fn coefficient(input: &[i16], v: usize, u: usize) -> i32
     requires { ⌜ length (now input) ≡ 64 ⌝ }
     requires { ⌜ (v < 8) × (u < 8) ⌝ }
     ensures { λ r. ⌜ r ≡ getD (now (input .entry)) (8 * v + u) (pos 0) ⌝ }

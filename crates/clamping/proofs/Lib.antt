@@ -1,3 +1,4 @@
 pub mod Clamp
 pub mod ByRule
+pub mod AsIs
 pub mod Edges

@@ -3,7 +3,8 @@
 //
 // Columns first, then rows. The column pass keeps PASS1_BITS fraction bits, the row pass takes them and the 1/8 normalisation off, and
 // `sample_u8` shifts the level and clamps. Arithmetic wraps modulo 2^32, as document 01 has it; of 16-bit coefficients the column pass
-// never wraps (`column-eight`, `columns-narrow` of block/proofs), so it goes by direct products and has no zero shortcut.
+// never wraps (`column-eight`, `columns-narrow` of block/proofs), so it goes by direct products and has no zero shortcut. A block of which
+// DC alone is not zero is cut short (`block_access::level`).
 //
 // Each entry answers its refusal number, 1 for an input not of 64 places, then 3 for an output not of 64, and then leaves the output as it
 // was; or 0, and the output holds the samples, with how many of them the clamp raised to 0 and how many it lowered to 255 (document 02,
@@ -21,7 +22,8 @@ ghost use Rattle.lists.specs.Every.{Every};
 ghost use Rattle.gains.specs.Gains.{gains};
 ghost use Rattle.passes.specs.Passes.{pass, eight};
 ghost use Rattle.block.specs.Block.{columnOf, columns, block, firstRows, inverseTests};
-ghost use Rattle.block.specs.Clamped.{blockRaised, blockLowered, clampedAnswer};
+ghost use Rattle.clamping.specs.Counts.{counted, tallyOne};
+ghost use Rattle.block.specs.Clamped.{unclamped, blockRaised, blockLowered, clampedAnswer};
 ghost use Rattle.refusals.specs.Refusals.{written};
 use crate::column_pass::columns_as_i16;
 use crate::column_pass::columns_i32;
@@ -31,6 +33,10 @@ use crate::fit_16::all_fit;
 use crate::row_pass::rows;
 use block::Clamped;
 use block_access::clamped;
+use block_access::coefficient;
+use block_access::level::all_zero_i16;
+use block_access::level::all_zero_i32;
+use block_access::level::put_level;
 use block_access::load_column;
 use block_access::refused;
 use islow::direct::islow_1d_direct;
@@ -64,6 +70,9 @@ pub fn islow_block(input: &[i16], output: &mut [u8]) -> Clamped
     if output.len() != 64 {
         return refused(3); // an output of the wrong length
     }
+    if all_zero_i16(&input[1..64]) {
+        return clamped(put_level(output, coefficient(input, 0, 0)));
+    }
     let w = islow_columns(input, PASS1_SHIFT);
     clamped(rows(&w, output)) // the output holds the samples
 }
@@ -78,6 +87,9 @@ pub fn islow_block_top_half(input: &[i16], output: &mut [u8]) -> Clamped
     }
     if output.len() != 64 {
         return refused(3); // all 64 samples are written
+    }
+    if all_zero_i16(&input[1..32]) {
+        return clamped(put_level(output, coefficient(input, 0, 0)));
     }
     let w = islow_columns_top_half(input);
     clamped(rows(&w, output))
@@ -98,25 +110,38 @@ fn copied(input: &[i32]) -> [i32; 64]
     block
 }
 
+// The samples of the 8×8 block of 32-bit numbers, for the entry and for a plane; the answer has both counts in one number (`tallyOne`). So
+// they are handed on in a register: a struct goes through memory, where two counts written one by one are slow to read as one.
+pub fn write_i32(input: &[i32], output: &mut [u8]) -> u32
+    requires { ⌜ (length (now input) ≡ 64) × (length (now output) ≡ 64) ⌝ }
+    ensures { λ r. ⌜ r ≡ counted tallyOne (unclamped eight (now (input .entry))) ⌝ }
+    ensures { λ _. ⌜ now (output .exit) ≡ block eight (now (input .entry)) ⌝ }
+{
+    if all_zero_i32(&input[1..64]) {
+        return put_level(output, input[0]);
+    }
+    let block = copied(input);
+    if all_fit(&block, 64) {
+        let mut w = [[0i32; 8]; 8];
+        columns_as_i16(&block, &mut w);
+        return rows(&w, output);
+    }
+    let w = columns_i32(&block, 8);
+    rows(&w, output)
+}
+
 // The 8×8 block of 32-bit numbers.
 pub fn islow_block_i32(input: &[i32], output: &mut [u8]) -> Clamped
     ensures { λ r. ⌜ r ≡ clampedAnswer (inverseTests 64 (now (input .entry)) (now (output .entry))) (blockRaised eight (now (input .entry))) (blockLowered eight (now (input .entry))) ⌝ }
     ensures { λ r. ⌜ now (output .exit) ≡ written (r .status) (block eight (now (input .entry))) (now (output .entry)) ⌝ }
 {
     if input.len() != 64 {
-        return refused(1);
+        return refused(1); // not of 64 numbers
     }
     if output.len() != 64 {
         return refused(3);
     }
-    let block = copied(input);
-    if all_fit(&block, 64) {
-        let mut w = [[0i32; 8]; 8];
-        columns_as_i16(&block, &mut w);
-        return clamped(rows(&w, output));
-    }
-    let w = columns_i32(&block, 8);
-    clamped(rows(&w, output))
+    clamped(write_i32(input, output))
 }
 
 // The block whose rows 4..7 are zero, or count as zero: they are not read.
@@ -129,6 +154,9 @@ pub fn islow_block_top_half_i32(input: &[i32], output: &mut [u8]) -> Clamped
     }
     if output.len() != 64 {
         return refused(3);
+    }
+    if all_zero_i32(&input[1..32]) {
+        return clamped(put_level(output, input[0]));
     }
     if all_fit(input, 32) {
         let w = columns_top_half_as_i16(input);

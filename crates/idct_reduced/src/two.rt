@@ -4,14 +4,14 @@
 // their places. Each column has its zero shortcut, which is faster for the blocks of a picture, most of whose columns are zero.
 ghost use mathlib.Core.Path.{_≡_};
 ghost use mathlib.Core.List.{map};
-ghost use Prim.Native.Nat.{_*_, _<_, _≤_};
+ghost use Prim.Native.Nat.{_<_, _≤_};
 ghost use lib.ListN.{length, replicate};
 ghost use lib.IntN.{pos};
-ghost use lib.Seq.{paste};
 ghost use mir.Syntax.{w32};
 ghost use Rattle.integers.specs.Linear.{zeroAt};
 ghost use Rattle.gains.specs.Gains.{gains2, skipped2};
 ghost use Rattle.clamping.specs.Clamping.{sampleU8};
+ghost use Rattle.clamping.specs.Rule.{isSample};
 ghost use Rattle.clamping.specs.Counts.{counted, tallyOne};
 ghost use Rattle.passes.specs.Passes.{two, pass, columnPass, rowPass};
 ghost use Rattle.block.specs.Block.{rowOf, columns, rowSamples, without};
@@ -25,6 +25,7 @@ use passes::PASS2_SHIFT;
 use passes::zero_shortcut::DC_GAIN;
 use passes::zero_shortcut::DC_SHIFT;
 use scaling::descale_i32;
+use wrapping::wrapping_add_i32;
 use wrapping::wrapping_mul_i32;
 
 // Whether the entries besides p[0] that the 2-point transform reads are zero.
@@ -84,34 +85,59 @@ fn load_row_2(w: &[[i32; 2]; 8], y: usize) -> [i32; 8]
     p
 }
 
-// Row y of the samples, from p: with the zero shortcut. The answer has both counts of the row in one number (`tallyOne`).
-fn row_2(output: &mut [u8], y: usize, p: [i32; 8]) -> u32
-    requires { ⌜ length (now output) ≡ 4 ⌝ }
-    requires { ⌜ y < 2 ⌝ }
-    ensures { λ r. ⌜ (r ≡ counted tallyOne (rowPass two p)) × (r ≤ 512) ⌝ }
-    ensures { λ _. ⌜ now (output .exit) ≡ paste (now (output .entry)) (y * 2) (map sampleU8 (rowPass two p)) 2 ⌝ }
+// A row before the clamp, with the zero shortcut.
+fn row_2(p: [i32; 8]) -> [i32; 2]
+    ensures { λ r. ⌜ r ≡ rowPass two p ⌝ }
 {
     if ac_is_zero_2(p) {
-        let value = descale_i32(p[0], DC_SHIFT);
-        let q = [value; 2];
-        put_row(output, y * 2, &q);
-        return 2 * tally_i32(value);
+        return [descale_i32(p[0], DC_SHIFT); 2];
     }
-    let q = pass_2(p, PASS2_SHIFT + 2);
-    put_row(output, y * 2, &q);
-    tally_i32(q[0]) + tally_i32(q[1])
+    pass_2(p, PASS2_SHIFT + 2)
 }
 
+// Whether a sum is a sample as it is.
+fn is_sample(sum: i32) -> bool
+    ensures { λ r. ⌜ r ≡ isSample sum ⌝ }
+{
+    (sum >= 0) & (sum <= 255)
+}
+
+// Both counts of four numbers, in one (`tallyOne`).
+fn tally_4(q: [i32; 4]) -> u32
+    ensures { λ r. ⌜ r ≡ counted tallyOne q ⌝ }
+{
+    tally_i32(q[0]) + tally_i32(q[1]) + tally_i32(q[2]) + tally_i32(q[3])
+}
+
+// Writes the samples of q; the answer has both counts in one number. Where all four sums are samples as they are, which one `|`
+// tells, nothing is clamped and nothing counted.
+fn put_2(output: &mut [u8], q: [i32; 4]) -> u32
+    requires { ⌜ length (now output) ≡ 4 ⌝ }
+    ensures { λ r. ⌜ r ≡ counted tallyOne q ⌝ }
+    ensures { λ _. ⌜ now (output .exit) ≡ map sampleU8 q ⌝ }
+{
+    let a = wrapping_add_i32(q[0], 128);
+    let b = wrapping_add_i32(q[1], 128);
+    let c = wrapping_add_i32(q[2], 128);
+    let d = wrapping_add_i32(q[3], 128);
+    if is_sample(a | (b | (c | d))) {
+        output[0] = a as u8;
+        output[1] = b as u8;
+        output[2] = c as u8;
+        output[3] = d as u8;
+        return 0;
+    }
+    put_row(output, 0, &q);
+    tally_4(q)
+}
+
+// The samples of what is given by its columns, and both counts.
 pub fn rows_2(w: &[[i32; 2]; 8], output: &mut [u8]) -> u32
     requires { ⌜ length (now output) ≡ 4 ⌝ }
     ensures { λ r. ⌜ r ≡ counted tallyOne (rowSamples (rowPass two) itself 2 (now (w .entry))) ⌝ }
     ensures { λ _. ⌜ now (output .exit) ≡ rowSamples (rowPass two) sampleU8 2 (now (w .entry)) ⌝ }
 {
-    let mut t = 0;
-    let mut y = 0;
-    while y < 2 {
-        t += row_2(output, y, load_row_2(w, y));
-        y += 1;
-    }
-    t
+    let q = row_2(load_row_2(w, 0));
+    let r = row_2(load_row_2(w, 1));
+    put_2(output, [q[0], q[1], r[0], r[1]])
 }

@@ -42,7 +42,7 @@ dot-agree (c ∷ u) xs ys h = step c u xs ys (h 0) (dot-agree u (tail xs) (tail 
     step : (c : ℤ) (u xs ys : List ℤ) → c *ℤ getD xs 0 (pos 0) ≡ c *ℤ getD ys 0 (pos 0) → dot u (tail xs) ≡ dot u (tail ys) → dot (c ∷ u) xs ≡ dot (c ∷ u) ys
     step c u xs ys e r = dot-cons c u xs ∙ (λ i. e i +ℤ r i) ∙ sym (dot-cons c u ys)
 
-zero-size : (z : ℤ) → natAbs z ≡ 0 → z ≡ pos 0
+pub zero-size : (z : ℤ) → natAbs z ≡ 0 → z ≡ pos 0
 zero-size (pos n) e = ap pos e
 zero-size (negsuc n) e = absurd (omega arith)
 

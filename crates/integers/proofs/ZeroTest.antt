@@ -3,10 +3,10 @@
 use mathlib.Core.Path.{_≡_, refl, sym, _∙_}
 use mathlib.Core.Bool.{Bool, true, false, _&&_}
 use mathlib.Core.List.{List, [], _∷_}
-use Prim.Native.Nat.{ℕ, zero, suc, _*_, _^_, _<_}
+use Prim.Native.Nat.{ℕ, zero, suc, _*_, _^_, _≤_, _<_}
 use native.Mathlib.Omega.{arith}
 use borrow.Author.Tests.{ne-eqb}
-use lib.Bits.{bitOr, or-add-and, and-le-r, or-zero-l}
+use lib.Bits.{bitOr, or-add-and, and-le-l, and-le-r, or-zero-l}
 use lib.Dec.{eqb}
 use lib.ListN.{getD}
 use lib.IntN.{ℤ, pos, negsuc, natAbs}
@@ -22,12 +22,18 @@ bitsOf w xs [] = 0
 bitsOf w xs (k ∷ []) = ofZ w (getD xs k (pos 0))
 bitsOf w xs (k ∷ j ∷ ks) = bitOr (ofZ w (getD xs k (pos 0))) (bitsOf w xs (j ∷ ks))
 
-or-eqb : (a b : ℕ) → eqb (bitOr a b) 0 ≡ eqb a 0 && eqb b 0
+pub or-eqb : (a b : ℕ) → eqb (bitOr a b) 0 ≡ eqb a 0 && eqb b 0
 or-eqb zero b = rw (or-zero-l b)
 or-eqb (suc a) b =
     let below = and-le-r (suc a) b in
     let sum = or-add-and (suc a) b in
     rw (ne-eqb (bitOr (suc a) b) 0 (λ e. omega arith), ne-eqb (suc a) 0 (λ e. omega arith))
+
+-- neither is more than both together
+pub or-most : (a b n : ℕ) → bitOr a b ≤ n → (a ≤ n) × (b ≤ n)
+or-most a b n h =
+    let sum = or-add-and a b in
+    (omega (arith, and-le-r a b), omega (arith, and-le-l a b))
 
 module _ (w : Width) where
   pub zero-bits : (z : ℤ) → mag z < 2 ^ hbits w → eqb (ofZ w z) 0 ≡ eqb (natAbs z) 0

@@ -16,9 +16,9 @@ use crate::is_measured;
 use crate::lesser;
 use crate::runs::copy_run;
 use block::Clamped;
-use idct_8x8::islow_block_i32;
-use idct_reduced::islow_block_2x2;
-use idct_reduced::islow_block_4x4;
+use idct_8x8::write_i32;
+use idct_reduced::write_2x2;
+use idct_reduced::write_4x4;
 use stored_blocks::product;
 
 // `copy_run` of a row of a block: of a whole one, which most are, the number is a literal.
@@ -94,9 +94,9 @@ fn put_full(
 {
     let products = products_i32(coefficients, quant);
     let mut block = [0u8; 64];
-    let counts = islow_block_i32(&products, &mut block);
+    let tally = write_i32(&products, &mut block);
     put_block(&block, 8, x, y, width, height, out);
-    counts
+    block_access::clamped(tally)
 }
 
 fn clamped(product: i32) -> i16
@@ -142,9 +142,9 @@ fn put_half(
 {
     let products = products_i16(coefficients, quant);
     let mut block = [0u8; 16];
-    let counts = islow_block_4x4(&products, &mut block);
+    let tally = write_4x4(&products, &mut block);
     put_block(&block, 4, x, y, width, height, out);
-    counts
+    block_access::clamped(tally)
 }
 
 // The step for one block at quarter size.
@@ -164,9 +164,9 @@ fn put_quarter(
 {
     let products = products_i16(coefficients, quant);
     let mut block = [0u8; 4];
-    let counts = islow_block_2x2(&products, &mut block);
+    let tally = write_2x2(&products, &mut block);
     put_block(&block, 2, x, y, width, height, out);
-    counts
+    block_access::clamped(tally)
 }
 
 // The step for one block at the scale of `by`.

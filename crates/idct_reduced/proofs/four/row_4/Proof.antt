@@ -1,10 +1,9 @@
 -- `idct_reduced::four::row_4` meets its contract. Assumes nothing.
-use mathlib.Core.Path.{_≡_, refl, ap, _∙_}
-use mathlib.Core.List.{List, [], _∷_}
-use native.Mathlib.Omega.{arith}
+use mathlib.Core.Path.{ap, _∙_}
+use mathlib.Core.List.{[], _∷_}
 use borrow.Author.Needs.{needs}
-use lib.ListN.{length, set}
-use lib.IntN.{ℤ, pos}
+use lib.ListN.{length}
+use lib.IntN.{pos}
 use mir.Syntax.{w32}
 use mir.ValLaws.{toZ-ofZ}
 use Rattle.lists.specs.Tab.{tab}
@@ -12,16 +11,9 @@ use Rattle.lists.proofs.Tab.{tab-getD}
 use Rattle.scaling.proofs.Rounding.{descaled-read}
 use Rattle.passes.specs.Passes.{four}
 use Rattle.passes.proofs.Steps.{four-rows, length-row, zero-row, full-row}
+use Rattle.idct_reduced.proofs.Places.{all-set}
 use Rattle.idct_reduced.proofs.four.row_4.Statement.{statement}
 use Rattle.idct_reduced.proofs.four.row_4.Tie as tie
-
-all-set : (q : List ℤ) (a b c d : ℤ) → length q ≡ 4 → set (set (set (set q 0 a) 1 b) 2 c) 3 d ≡ a ∷ b ∷ c ∷ d ∷ []
-all-set (p ∷ q ∷ r ∷ s ∷ []) a b c d l = refl
-all-set [] a b c d l = absurd (omega arith)
-all-set (p ∷ []) a b c d l = absurd (omega arith)
-all-set (p ∷ q ∷ []) a b c d l = absurd (omega arith)
-all-set (p ∷ q ∷ r ∷ []) a b c d l = absurd (omega arith)
-all-set (p ∷ q ∷ r ∷ s ∷ t ∷ u) a b c d l = absurd (omega arith)
 
 returns : tie.Need-returns
 unfolding four
