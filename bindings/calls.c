@@ -656,6 +656,48 @@ static void forward_12bit(void)
     REFUSED(name, jpeg_block_fdct_quantize_12bit(block, 64, quant, 64, output, 64), 12);
 }
 
+/* A strip of 8 × 9 and one of 3 × 9: two blocks each, one above the other. */
+static void joined(void)
+{
+    static const char name[] = "jpeg_block_join_planes";
+    static const int16_t wide[32768] = {0};
+    int16_t left[129], right[129], joined[257];
+    uint8_t q[65] = {0}, r[65] = {0};
+    int i;
+    for (i = 0; i < 129; i++) {
+        left[i] = (int16_t)i;
+        right[i] = (int16_t)(1000 + i);
+    }
+    for (i = 0; i < 257; i++) {
+        joined[i] = -7;
+    }
+    q[5] = 1; /* a quantizer 0 counts as 1 */
+    expect(jpeg_block_join_planes(left, 127, 0, 9, q, 63, right, 127, 0, 9, r, 63, joined, 255) == 8, name, "a left width of 0");
+    expect(jpeg_block_join_planes(left, 127, 8, 9, q, 63, right, 127, 3, 4097, r, 63, joined, 255) == 8, name, "a right height of 4097");
+    expect(jpeg_block_join_planes(left, 127, 8, 9, q, 63, right, 127, 4097, 9, r, 63, joined, 255) == 8, name, "a right width of 4097");
+    expect(jpeg_block_join_planes(NULL, 0, 8, 0, NULL, 0, NULL, 0, 3, 9, NULL, 0, NULL, 0) == 8, name, "a left height of 0");
+    expect(jpeg_block_join_planes(left, 127, 8, 9, q, 63, right, 127, 3, 9, r, 63, joined, 255) == 1, name, "127 coefficients on the left");
+    expect(jpeg_block_join_planes(left, 128, 8, 9, q, 63, right, 129, 3, 9, r, 63, joined, 255) == 1, name, "129 coefficients on the right");
+    expect(jpeg_block_join_planes(left, 128, 8, 9, q, 63, right, 128, 3, 9, r, 65, joined, 255) == 2, name, "a left table of 63");
+    expect(jpeg_block_join_planes(left, 128, 8, 9, q, 64, right, 128, 3, 9, r, 65, joined, 255) == 2, name, "a right table of 65");
+    r[6] = 2;
+    expect(jpeg_block_join_planes(left, 128, 7, 9, q, 64, right, 64, 3, 8, r, 64, joined, 255) == 15, name, "other divisors");
+    r[6] = 0;
+    expect(jpeg_block_join_planes(left, 128, 7, 9, q, 64, right, 64, 3, 8, r, 64, joined, 255) == 16, name, "other heights");
+    expect(jpeg_block_join_planes(left, 128, 7, 9, q, 64, right, 128, 3, 9, r, 64, joined, 255) == 17, name, "a left width of 7");
+    expect(jpeg_block_join_planes(wide, 32768, 4096, 1, q, 64, right, 64, 1, 1, r, 64, joined, 255) == 8, name, "a joined width of 4097");
+    expect(jpeg_block_join_planes(left, 128, 8, 9, q, 64, right, 128, 3, 9, r, 64, joined, 255) == 3, name, "an output of 255 places");
+    expect(jpeg_block_join_planes(left, 128, 8, 9, q, 64, right, 128, 3, 9, r, 64, NULL, 0) == 3, name, "no output");
+    for (i = 0; i < 257; i++) {
+        expect(joined[i] == -7, name, "wrote where it refused");
+    }
+    expect(jpeg_block_join_planes(left, 128, 8, 9, q, 64, right, 128, 3, 9, r, 64, joined, 256) == 0, name, "is refused");
+    for (i = 0; i < 256; i++) {
+        expect(joined[i] == (i % 128 < 64 ? 64 * (i / 128) + i % 64 : 1000 + 64 * (i / 128) + i % 64), name, "a joined coefficient");
+    }
+    expect(joined[256] == -7, name, "wrote beside the output");
+}
+
 int main(void)
 {
     inverse_blocks();
@@ -673,6 +715,7 @@ int main(void)
     percents();
     queued();
     forward_12bit();
+    joined();
     if (failures == 0) {
         printf("every call is as expected\n");
     }

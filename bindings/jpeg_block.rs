@@ -223,6 +223,22 @@ pub mod raw {
             yes: *mut u8,
             yes_len: usize,
         ) -> u32;
+        pub fn jpeg_block_join_planes(
+            left: *const i16,
+            left_len: usize,
+            left_width: usize,
+            left_height: usize,
+            left_quant: *const u8,
+            left_quant_len: usize,
+            right: *const i16,
+            right_len: usize,
+            right_width: usize,
+            right_height: usize,
+            right_quant: *const u8,
+            right_quant_len: usize,
+            out: *mut i16,
+            out_len: usize,
+        ) -> u32;
         pub fn jpeg_block_percent_table(
             base: *const u8,
             base_len: usize,
@@ -666,6 +682,46 @@ pub fn same(a: &[i16], b: &[i16]) -> Result<bool, u32> {
         )
     };
     answer(status, place[0] == 1)
+}
+
+/// A plane's coefficients as `fdct_quantize_plane` writes them, with its width,
+/// height and table.
+#[derive(Clone, Copy, Debug)]
+pub struct Strip<'a> {
+    pub coefficients: &'a [i16],
+    pub width: usize,
+    pub height: usize,
+    pub quant: &'a [u8],
+}
+
+/// Two planes of one height become one, whose blocks are the left's and then the
+/// right's in each row of blocks. Refusals, each for the left and then for the
+/// right: 8, a width or height outside 1 to 4096; 1, coefficients not 64 to a
+/// block; 2, a table not of 64. Then 15, divisors that differ; 16, heights that
+/// differ; 17, a left width that is no multiple of 8; 8, a joined width above
+/// 4096; 3, an output not of 64 places to a joined block.
+#[inline]
+pub fn join_planes(left: Strip, right: Strip, out: &mut [i16]) -> Result<(), u32> {
+    // SAFETY: all are slices, and an exclusive one overlaps no other.
+    let status = unsafe {
+        raw::jpeg_block_join_planes(
+            left.coefficients.as_ptr(),
+            left.coefficients.len(),
+            left.width,
+            left.height,
+            left.quant.as_ptr(),
+            left.quant.len(),
+            right.coefficients.as_ptr(),
+            right.coefficients.len(),
+            right.width,
+            right.height,
+            right.quant.as_ptr(),
+            right.quant.len(),
+            out.as_mut_ptr(),
+            out.len(),
+        )
+    };
+    answer(status, ())
 }
 
 /// A table by percent: each quantizer of the base table times the percent, plus

@@ -11,12 +11,15 @@
  *   3  an output of the wrong length
  *   4  an index above 63
  *   5  a quantizer 0 anywhere
- *   8  a width or height of 0 or above 4096
+ *   8  a width or height of 0 or above 4096, a joined width too
  *   9  samples that are not width times height
  *  11  a percent outside 1 to 200
  *  12  a 12-bit sample above 4095
  *  13  a bench count outside 1 to 8, a bench number not below it, a queue state out of range
  *  14  a waiting count above 65535
+ *  15  divisors of two strips that differ
+ *  16  heights of two strips that differ
+ *  17  a left strip whose width is no multiple of 8
  *
  * Quantizers are of 8 bits: a table of T.81 with 16-bit entries is taken by jpeg_block_fdct_quantize_12bit alone.
  *
@@ -47,6 +50,11 @@ extern "C" {
 #define JPEG_BLOCK_REFUSED_SAMPLES 9
 #define JPEG_BLOCK_REFUSED_PERCENT 11
 #define JPEG_BLOCK_REFUSED_SAMPLE 12
+#define JPEG_BLOCK_REFUSED_BENCH 13
+#define JPEG_BLOCK_REFUSED_WAITING 14
+#define JPEG_BLOCK_REFUSED_DIVISORS 15
+#define JPEG_BLOCK_REFUSED_HEIGHTS 16
+#define JPEG_BLOCK_REFUSED_LEFT_WIDTH 17
 
 /* The inverse transforms (ISLOW) of 64 dequantized coefficients. Refusals 1, 3.
  *
@@ -133,6 +141,12 @@ uint32_t jpeg_block_fdct_quantize_plane(const uint8_t *samples, size_t samples_l
 uint32_t jpeg_block_islow_plane(const int16_t *coefficients, size_t coefficients_len, size_t width, size_t height, const uint8_t *quant, size_t quant_len, uint8_t *output, size_t output_len, uint32_t *counts, size_t counts_len);
 uint32_t jpeg_block_islow_plane_4x4(const int16_t *coefficients, size_t coefficients_len, size_t width, size_t height, const uint8_t *quant, size_t quant_len, uint8_t *output, size_t output_len, uint32_t *counts, size_t counts_len);
 uint32_t jpeg_block_islow_plane_2x2(const int16_t *coefficients, size_t coefficients_len, size_t width, size_t height, const uint8_t *quant, size_t quant_len, uint8_t *output, size_t output_len, uint32_t *counts, size_t counts_len);
+
+/* Two coefficient planes of one height become one, without decoding: in each row of blocks the left's blocks and then the right's. Decoded it
+ * shows the left picture beside the right one. out_len 64 for each block of a plane of left_width + right_width by left_height. Refusals 8,
+ * 1 and 2, each for the left and then for the right; 15 for divisors that differ, a quantizer 0 counting as 1; 16 for heights that differ;
+ * 17 for a left width that is no multiple of 8; 8 for a joined width above 4096; 3. */
+uint32_t jpeg_block_join_planes(const int16_t *left, size_t left_len, size_t left_width, size_t left_height, const uint8_t *left_quant, size_t left_quant_len, const int16_t *right, size_t right_len, size_t right_width, size_t right_height, const uint8_t *right_quant, size_t right_quant_len, int16_t *out, size_t out_len);
 
 /* A table by percent, 1 to 200: each quantizer of the base table times the percent, plus 50, divided by 100 and rounded down, then held to
  * 1..255; out_len 64. A larger percent makes no divisor smaller and no zero coefficient nonzero. Refusals 2, 3, 11. */

@@ -21,7 +21,7 @@ mod planes;
 
 use j2k_codec_math::jpeg::{fdct, idct};
 use j2k_encoder::{Divisors, Quantized};
-use jpeg_block::{BenchQueue, QuantizedBlock};
+use jpeg_block::{BenchQueue, QuantizedBlock, Strip};
 use numbers::{Random, SEED};
 use planes::{any_plane, blocks, cut, Plane};
 use std::hint::black_box;
@@ -170,6 +170,11 @@ rust! {
             output[n] = ((u32::from(input.0[n]) * input.1 + 50) / 100).clamp(1, 255) as u8;
         }
     }
+    rust_join_planes(input: &Strips, output: &mut Vec<i16>) {
+        let (left, right) = output.split_at_mut(input.left.len());
+        left.copy_from_slice(&input.left);
+        right.copy_from_slice(&input.right);
+    }
     rust_bench_queue_turn(input: &[u32; 10], output: &mut [u8; 4096]) {
         let (benches, mut last, mut waiting) = (input[0], input[1], *input);
         for place in output {
@@ -199,6 +204,14 @@ impl Raised {
             widened: quant.map(u16::from),
         }
     }
+}
+
+/// Two strips of one size.
+struct Strips {
+    left: Vec<i16>,
+    right: Vec<i16>,
+    width: usize,
+    height: usize,
 }
 
 /// A plane's coefficients, its width and height, and the table.
@@ -731,6 +744,39 @@ fn main() {
             black_box(jpeg_block::percent_table(base, *percent, output)).expect("no refusal");
         },
     );
+    // Held against a plain copy of as many bytes.
+    for (kind, width, height) in [
+        ("8x8", 8, 8),
+        ("8x512", 8, 512),
+        ("64x64", 64, 64),
+        ("512x512", 512, 512),
+    ] {
+        let strips: Vec<Strips> = (0..4)
+            .map(|k| Strips {
+                left: vec![k; width * height],
+                right: vec![-k; width * height],
+                width,
+                height,
+            })
+            .collect();
+        mode.run(
+            "join_planes",
+            kind,
+            &strips,
+            vec![0; 2 * width * height],
+            rust_join_planes,
+            |strips, output| {
+                let strip = |coefficients| Strip {
+                    coefficients,
+                    width: strips.width,
+                    height: strips.height,
+                    quant: &[16; 64],
+                };
+                let (left, right) = (strip(&strips.left[..]), strip(&strips.right[..]));
+                black_box(jpeg_block::join_planes(left, right, output)).expect("no refusal");
+            },
+        );
+    }
     // Eight benches with many blocks each.
     mode.run(
         "bench_queue_turn",

@@ -1,7 +1,7 @@
 //! Compares every function of libjpeg_block.a with the published Rust, and
 //! those that it does not have with stored.rs, records.rs, percents.rs,
-//! queues.rs and twelve_bit.rs, on many inputs; the counts of the 8-bit inverses
-//! with clamped.rs.
+//! queues.rs, twelve_bit.rs and strips.rs, on many inputs; the counts of the
+//! 8-bit inverses with clamped.rs.
 //!
 //! Arguments: the seconds to spend, and the seed. Each function is first called
 //! with lengths around every one that it takes. Then all are asked for a list of
@@ -32,6 +32,7 @@ mod queues;
 mod records;
 #[allow(dead_code)]
 mod stored;
+mod strips;
 mod twelve_bit;
 
 use blocks::{blocks_from, CLAMP_12BIT, CLAMP_8BIT};
@@ -45,12 +46,13 @@ use j2k_encoder::Divisors;
 use jpeg_block::raw;
 use numbers::{ends, least, most, powers, Number, Random, SEED};
 use percents::{every_share, shares_from, Share};
-use planes::{any_coded, any_plane, cut, every_size, sizes_from, together, Coded};
+use planes::{any_coded, any_plane, cut, every_size, sizes_from, together, Coded, Plane};
 use std::fmt::Debug;
 use std::time::{Duration, Instant};
 use stored::{
     coded_blocks_from, pairs_of_blocks_from, screen_ends_from, stored_blocks_from, Pair, Stored,
 };
+use strips::{beside, every_join, picture, side_by_side, Strip};
 
 /// Inputs in one list: more than the boundary ones of any function.
 const LIST: usize = 4_000;
@@ -708,6 +710,99 @@ fn counting_plane(
             counts.len(),
         )
     }
+}
+
+fn join_planes(left: Strip, right: Strip, out: &mut [i16]) -> u32 {
+    // SAFETY: all are slices, and an exclusive one overlaps no other.
+    unsafe {
+        raw::jpeg_block_join_planes(
+            left.coefficients.as_ptr(),
+            left.coefficients.len(),
+            left.width,
+            left.height,
+            left.quant.as_ptr(),
+            left.quant.len(),
+            right.coefficients.as_ptr(),
+            right.coefficients.len(),
+            right.width,
+            right.height,
+            right.quant.as_ptr(),
+            right.quant.len(),
+            out.as_mut_ptr(),
+            out.len(),
+        )
+    }
+}
+
+/// The joined coefficients, which must be the rows of blocks side by side.
+fn joined(left: &Coded, ql: &Table, right: &Coded, qr: &Table) -> Result<Coded, String> {
+    let mut out = Lent::new(left.coefficients.len() + right.coefficients.len());
+    let status = join_planes(Strip::of(left, ql), Strip::of(right, qr), out.places());
+    if status != 0 {
+        return Err(format!("refused {status}"));
+    }
+    if !out.guards() {
+        return Err("wrote beside the output".to_string());
+    }
+    let across = |coded: &Coded| 64 * planes::blocks(coded.width);
+    let (p, q) = (across(left), across(right));
+    if out.held() != beside(&left.coefficients, p, &right.coefficients, q) {
+        return Err("other coefficients".to_string());
+    }
+    Ok(Coded {
+        width: left.width + right.width,
+        height: left.height,
+        coefficients: out.held().to_vec(),
+    })
+}
+
+/// What of a join is not as the harness has it: the coefficients, the picture and
+/// the counts at each scale, and that two coded pictures make the coded picture.
+fn join_tried(random: &mut Random, (wl, wr, h): (usize, usize, usize)) -> Result<(), String> {
+    let quant = any_table(random);
+    // The same divisors.
+    let other = quant.map(|q| if q <= 1 { random.below(2) as u8 } else { q });
+    let (left, right) = (any_coded(random, wl, h), any_coded(random, wr, h));
+    let both = joined(&left, &quant, &right, &other)?;
+    let calls: [(usize, CountingPlane); 3] = [
+        (1, raw::jpeg_block_islow_plane),
+        (2, raw::jpeg_block_islow_plane_4x4),
+        (4, raw::jpeg_block_islow_plane_2x2),
+    ];
+    for (by, f) in calls {
+        let (a, p, counts_a) = picture(&left, &quant, by);
+        let (b, q, counts_b) = picture(&right, &other, by);
+        let mut out = Lent::new((wl + wr).div_ceil(by) * h.div_ceil(by));
+        let mut counts = Lent::new(2);
+        let status = counting_plane(
+            f,
+            &both.coefficients,
+            (wl + wr, h),
+            &quant,
+            out.places(),
+            counts.places(),
+        );
+        if status != 0 || out.held() != beside(&a, p, &b, q) {
+            return Err(format!("other samples at one of {by}"));
+        }
+        if counts.held() != [counts_a[0] + counts_b[0], counts_a[1] + counts_b[1]] {
+            return Err(format!("other counts at one of {by}"));
+        }
+    }
+    let coded = |plane: &Plane, quant: &Table| Coded {
+        width: plane.width,
+        height: plane.height,
+        coefficients: cut(plane)
+            .iter()
+            .flat_map(|block| fdct::fdct_quantize(block, quant))
+            .collect(),
+    };
+    let (a, b) = (any_plane(random, wl, h), any_plane(random, wr, h));
+    let both = joined(&coded(&a, &quant), &quant, &coded(&b, &other), &other)?;
+    if both.coefficients != coded(&side_by_side(&a, &b), &quant).coefficients {
+        return Err("not the picture coded".to_string());
+    }
+    Ok(())
 }
 
 /// Widths and heights around every one that a plane call takes.
@@ -1453,6 +1548,94 @@ impl Compare {
         );
     }
 
+    /// Two strips become one: every join of `every_join` first, then random ones;
+    /// and refusals, alone and together.
+    fn joins(&mut self) {
+        let mut tally = Tally::new("join_planes");
+        let places = vec![3; strips::count(4096, 17) + 1];
+        let (ones, zeros, twos) = ([1; 65], [0; 65], [2; 65]);
+        let lefts = [
+            (8, 9),
+            (7, 9),
+            (8, 17),
+            (4088, 9),
+            (4096, 9),
+            (0, 9),
+            (8, 0),
+            (8, 4097),
+            (usize::MAX, 9),
+        ];
+        let rights = [
+            (3, 9),
+            (8, 9),
+            (9, 9),
+            (3, 17),
+            (0, 9),
+            (3, 0),
+            (4097, 9),
+            (3, usize::MAX),
+        ];
+        let tables = [(64, 64), (63, 64), (64, 65), (65, 63), (0, 0)];
+        for (width, height) in lefts {
+            for (beside, high) in rights {
+                for more in 0..4 {
+                    for (q, r) in tables {
+                        for table in [&ones, &zeros, &twos] {
+                            let left = Strip {
+                                coefficients: &places[..strips::count(width, height) + more % 2],
+                                width,
+                                height,
+                                quant: &ones[..q],
+                            };
+                            let right = Strip {
+                                coefficients: &places[..strips::count(beside, high) + more / 2],
+                                width: beside,
+                                height: high,
+                                quant: &table[..r],
+                            };
+                            let room = strips::count(width.saturating_add(beside), height);
+                            let room = room.min(1 << 17);
+                            for out in [room.saturating_sub(1), room, room + 1] {
+                                let number = strips::number(left, right, out);
+                                let lengths = ((width, height), (beside, high), more, q, r, out);
+                                tally.length(number, out, lengths, |to: &mut [i16]| {
+                                    join_planes(left, right, to)
+                                });
+                            }
+                        }
+                    }
+                }
+            }
+        }
+        let first = self.seed;
+        let try_list = Box::new(move |seed, tally: &mut Tally| {
+            let mut random = Random(seed);
+            let sizes = if seed == first {
+                every_join()
+            } else {
+                (0..PLANES)
+                    .map(|_| {
+                        (
+                            8 * (1 + random.below(30)) as usize,
+                            1 + random.below(200) as usize,
+                            1 + random.below(60) as usize,
+                        )
+                    })
+                    .collect()
+            };
+            for size in sizes {
+                tally.cases += 1;
+                if let Err(what) = join_tried(&mut random, size) {
+                    if tally.differences == 0 {
+                        println!("{}: {size:?}: {what}", tally.name);
+                    }
+                    tally.differences += 1;
+                }
+            }
+        });
+        self.functions.push(Function { tally, try_list });
+    }
+
     /// A function of the bench queue, tried on `count` random inputs a list.
     fn queue(
         &mut self,
@@ -1720,6 +1903,7 @@ fn main() {
     compare.percents();
     compare.queues();
     compare.twelve_bit();
+    compare.joins();
     for list in 0.. {
         for function in &mut compare.functions {
             (function.try_list)(seed.wrapping_add(list), &mut function.tally);

@@ -5,7 +5,7 @@ use mathlib.Core.Bool.{Bool, cond}
 use mathlib.Core.List.{List, [], _∷_, _++_}
 use Prim.Native.Nat.{ℕ, zero, suc, _+_, _*_, _/_, _%_, _≤_, _<_, zero-le}
 use native.Mathlib.Decide.{decLt}
-use native.Mathlib.Nat.{add-zero, add-suc, zero-mul, suc-mul, add-le-add}
+use native.Mathlib.Nat.{add-zero, add-suc, zero-mul, suc-mul, mul-zero, mul-suc, add-le-add}
 use native.Mathlib.Omega.{arith}
 use borrow.Author.Tests.{eq-eqb, ne-eqb}
 use lib.Dec.{eqb}
@@ -188,6 +188,23 @@ pub total-const : (m c : ℕ) → total m (λ i. c) ≡ m * c
 unfolding total
 total-const zero c = omega arith
 total-const (suc m) c = omega (arith, total-const m c)
+
+total-append : (f : ℕ → ℕ) (a b : ℕ) → total (a + b) f ≡ total a f + total b (λ j. f (a + j))
+unfolding total
+total-append f a zero = ap (λ (n : ℕ). total n f) (add-zero a) ∙ sym (add-zero (total a f))
+total-append f a (suc b) = ap (λ (n : ℕ). total n f) (add-suc a b) ∙ omega (arith, total-append f a b)
+
+-- row by row
+pub total-rows : (f : ℕ → ℕ) (a h : ℕ) → total (a * h) f ≡ total h (λ y. total a (λ x. f (a * y + x)))
+unfolding total
+total-rows f a zero = ap (λ (k : ℕ). total k f) (mul-zero a)
+total-rows f a (suc h) = ap (λ (k : ℕ). total k f) (mul-suc a h) ∙ total-append f (a * h) a ∙ ap (λ (s : ℕ). s + total a (λ x. f (a * h + x))) (total-rows f a h)
+
+-- rows of p terms beside rows of q
+pub total-beside : (f : ℕ → ℕ) (p q h : ℕ) → total ((p + q) * h) f ≡ total h (λ y. total p (λ x. f ((p + q) * y + x))) + total h (λ y. total q (λ x. f ((p + q) * y + (p + x))))
+total-beside f p q h =
+    total-rows f (p + q) h ∙ total-ext h _ _ (λ y b. total-append (λ x. f ((p + q) * y + x)) p q)
+    ∙ sym (total-add h (λ y. total p (λ x. f ((p + q) * y + x))) (λ y. total q (λ x. f ((p + q) * y + (p + x)))))
 
 -- the absolute values of a list, by its elements
 weight-snoc : (u : List ℤ) (a : ℤ) → weight (u ++ (a ∷ [])) ≡ weight u + natAbs a

@@ -15,4 +15,5 @@ mod planes;
 mod queue;
 mod records;
 mod stored;
+mod strips;
 mod tables;

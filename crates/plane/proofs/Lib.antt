@@ -5,3 +5,5 @@ pub mod Decoding
 pub mod Recoded
 pub mod Strips
 pub mod Counts
+pub mod Joined
+pub mod Joining

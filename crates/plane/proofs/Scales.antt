@@ -26,6 +26,9 @@ pub record Cropping (s : Scale) : Type 0 where
   pub fewer : (n : ℕ) → cropped s n ≤ n
   pub covers : (n : ℕ) → n ≤ s .by * cropped s n
   pub tight : (n : ℕ) → s .by * cropped s n < n + s .by
+  -- whole blocks, and then n columns or rows
+  pub whole : (a : ℕ) → cropped s (8 * a) ≡ s .size .side * a
+  pub wide : (a n : ℕ) → cropped s (8 * a + n) ≡ s .size .side * a + cropped s n
 
 pub cropping-full : Cropping full
 unfolding cropped blocks eight
@@ -38,6 +41,8 @@ cropping-full =
       fewer = λ n. omega arith;
       covers = λ n. omega arith;
       tight = λ n. omega arith;
+      whole = λ a. omega arith;
+      wide = λ a n. omega arith;
     }
 
 pub cropping-half : Cropping half
@@ -51,6 +56,8 @@ cropping-half =
       fewer = λ n. omega arith;
       covers = λ n. omega arith;
       tight = λ n. omega arith;
+      whole = λ a. omega arith;
+      wide = λ a n. omega arith;
     }
 
 pub cropping-quarter : Cropping quarter
@@ -64,6 +71,8 @@ cropping-quarter =
       fewer = λ n. omega arith;
       covers = λ n. omega arith;
       tight = λ n. omega arith;
+      whole = λ a. omega arith;
+      wide = λ a n. omega arith;
     }
 
 pub cropping : {by : ℕ} → Reduction by → Cropping (scaleBy by)

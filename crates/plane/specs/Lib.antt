@@ -4,3 +4,4 @@ pub mod Scale
 pub mod Counts
 pub mod Placing
 pub mod Strips
+pub mod Join

@@ -4,6 +4,7 @@
 // block is copied out of the plane, its edge repeated, and coded into its own 64 places of the output; back each is decoded to a buffer
 // and copied to the picture (`decode`): no more than one block is held.
 pub mod decode;
+pub mod join;
 mod runs;
 
 ghost use mathlib.Core.Path.{_≡_};
