@@ -698,6 +698,50 @@ static void joined(void)
     expect(joined[256] == -7, name, "wrote beside the output");
 }
 
+/* A sample of 129 under quantizers 16: it comes back up to a divisor of 11, at 71 percent, and is 1 away from 17 on, where no coefficient is
+ * left. A block of 128 has none at any percent. */
+static void fewest(void)
+{
+    static const char name[] = "jpeg_block_fewest_coefficients";
+    uint8_t sample[65], grey[64], base[65];
+    OUTPUT(uint64_t);
+    memset(sample, 129, sizeof sample);
+    memset(grey, 128, sizeof grey);
+    memset(base, 16, sizeof base);
+#define FEWEST(samples, side, limit, trials, percent, off, tried) \
+    do { \
+        expect(jpeg_block_fewest_coefficients(samples, (side) * (side), side, side, base, 64, limit, trials, output, 3) == 0, name, "is refused"); \
+        expect(output[0] == (percent), name, "limit " #limit ", trials " #trials ": not " #percent " percent"); \
+        expect(output[1] == (off), name, "limit " #limit ", trials " #trials ": not " #off " off"); \
+        expect(output[2] == (tried), name, "limit " #limit ", trials " #trials ": not " #tried " trials"); \
+        WROTE(name, 3); \
+    } while (0)
+    REFUSED(name, jpeg_block_fewest_coefficients(sample, 0, 0, 1, base, 63, 0, 200, output, 2), 8);
+    REFUSED(name, jpeg_block_fewest_coefficients(sample, 0, 1, 0, base, 63, 0, 200, output, 2), 8);
+    REFUSED(name, jpeg_block_fewest_coefficients(sample, 1, 4097, 1, base, 64, 0, 200, output, 3), 8);
+    REFUSED(name, jpeg_block_fewest_coefficients(sample, 1, 1, SIZE_MAX, base, 64, 0, 200, output, 3), 8);
+    REFUSED(name, jpeg_block_fewest_coefficients(sample, 63, 8, 8, base, 63, 0, 200, output, 2), 9);
+    REFUSED(name, jpeg_block_fewest_coefficients(sample, 65, 8, 8, base, 64, 0, 200, output, 3), 9);
+    REFUSED(name, jpeg_block_fewest_coefficients(NULL, 0, 8, 8, NULL, 0, 0, 200, NULL, 0), 9);
+    REFUSED(name, jpeg_block_fewest_coefficients(sample, 64, 8, 8, base, 63, 0, 200, output, 2), 2);
+    REFUSED(name, jpeg_block_fewest_coefficients(sample, 64, 8, 8, base, 65, 0, 200, output, 3), 2);
+    REFUSED(name, jpeg_block_fewest_coefficients(sample, 64, 8, 8, base, 64, 0, 200, output, 2), 3);
+    REFUSED(name, jpeg_block_fewest_coefficients(sample, 64, 8, 8, base, 64, 0, 200, output, 4), 3);
+    REFUSED(name, jpeg_block_fewest_coefficients(sample, 64, 8, 8, base, 64, 0, 200, NULL, 0), 3);
+    FEWEST(sample, 8, 0, 0, 0, 0, 0);
+    FEWEST(sample, 8, 0, 1, 1, 1, 1);
+    FEWEST(sample, 8, 0, 200, 71, 1, 200);
+    FEWEST(sample, 8, 63, 200, 71, 1, 200);
+    FEWEST(sample, 8, 64, 200, 200, 0, 200);
+    FEWEST(sample, 8, 64, 199, 199, 0, 199);
+    FEWEST(sample, 8, 64, 201, 200, 0, 200);
+    FEWEST(sample, 8, UINT64_MAX, UINT32_MAX, 200, 0, 200);
+    FEWEST(sample, 1, 0, 200, 71, 1, 200);
+    FEWEST(sample, 1, 1, 200, 200, 0, 200);
+    FEWEST(grey, 8, 0, 7, 7, 0, 7);
+#undef FEWEST
+}
+
 int main(void)
 {
     inverse_blocks();
@@ -713,6 +757,7 @@ int main(void)
     same_blocks();
     same_recorded();
     percents();
+    fewest();
     queued();
     forward_12bit();
     joined();

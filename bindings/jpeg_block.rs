@@ -246,6 +246,18 @@ pub mod raw {
             out: *mut u8,
             out_len: usize,
         ) -> u32;
+        pub fn jpeg_block_fewest_coefficients(
+            samples: *const u8,
+            samples_len: usize,
+            width: usize,
+            height: usize,
+            base: *const u8,
+            base_len: usize,
+            limit: u64,
+            trials: u32,
+            answer: *mut u64,
+            answer_len: usize,
+        ) -> u32;
         pub fn jpeg_block_bench_queue_new(benches: u32, state: *mut u32, state_len: usize) -> u32;
         pub fn jpeg_block_bench_queue_deposit(
             state: *mut u32,
@@ -740,6 +752,65 @@ pub fn percent_table(base: &[u8], percent: u32, out: &mut [u8]) -> Result<(), u3
         )
     };
     answer(status, ())
+}
+
+/// What `fewest_coefficients` finds.
+#[derive(Clone, Copy, Debug, PartialEq)]
+pub struct Fewest {
+    /// `None`: none tried is good.
+    pub percent: Option<u32>,
+    /// How many nonzero coefficients it has at most more than any percent of 1
+    /// to 200: its number less that at percent 200, or 0 where none is good.
+    pub off: u64,
+    /// The number of trials, at most 200.
+    pub trials: u32,
+}
+
+/// The good percent of a base table with the fewest nonzero coefficients, the
+/// larger on equality. Percents 1, 2, 3 and on are tried, at most 200, each by
+/// coding and decoding the plane; one is good where the squared differences of
+/// the plane's samples add up to at most the limit. Refusals: 8, a width or
+/// height of 0 or above 4096; 9, samples that are not width times height; 2, a
+/// base table not of 64.
+#[inline]
+pub fn fewest_coefficients(
+    samples: &[u8],
+    width: usize,
+    height: usize,
+    base: &[u8],
+    limit: u64,
+    trials: u32,
+) -> Result<Fewest, u32> {
+    let mut place = [0; 3];
+    // SAFETY: all are slices, and an exclusive one overlaps no other.
+    let status = unsafe {
+        raw::jpeg_block_fewest_coefficients(
+            samples.as_ptr(),
+            samples.len(),
+            width,
+            height,
+            base.as_ptr(),
+            base.len(),
+            limit,
+            trials,
+            place.as_mut_ptr(),
+            place.len(),
+        )
+    };
+    let [percent, off, trials] = place;
+    let percent = if percent == 0 {
+        None
+    } else {
+        Some(percent as u32)
+    };
+    answer(
+        status,
+        Fewest {
+            percent,
+            off,
+            trials: trials as u32,
+        },
+    )
 }
 
 /// The queue of one to eight benches before one coder: ten numbers, the bench

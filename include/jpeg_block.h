@@ -152,6 +152,14 @@ uint32_t jpeg_block_join_planes(const int16_t *left, size_t left_len, size_t lef
  * 1..255; out_len 64. A larger percent makes no divisor smaller and no zero coefficient nonzero. Refusals 2, 3, 11. */
 uint32_t jpeg_block_percent_table(const uint8_t *base, size_t base_len, uint32_t percent, uint8_t *out, size_t out_len);
 
+/* The good percent of a base table with the fewest nonzero coefficients, the larger on equality. Percents 1, 2, 3 and on are tried, so many
+ * as `trials` says and at most 200, each by coding and decoding the plane under the table of that percent; one is good where the squared
+ * differences of the plane's samples to those that come back add up to at most `limit`. Into answer[0] the percent, or 0 when none tried is
+ * good; into answer[1] how many nonzero coefficients it has at most more than any percent of 1 to 200: its number less that at percent 200,
+ * or 0 when none is good; into answer[2] the number of trials, at most 200; answer_len 3. The time grows with blocks times trials.
+ * Refusals 8, 9, 2, 3. */
+uint32_t jpeg_block_fewest_coefficients(const uint8_t *samples, size_t samples_len, size_t width, size_t height, const uint8_t *base, size_t base_len, uint64_t limit, uint32_t trials, uint64_t *answer, size_t answer_len);
+
 /* The queue of one to eight benches before one coder. A state is ten numbers: the bench count, the bench last served, and eight counts of
  * waiting blocks, 0 to 65535 and 0 past the last bench; state_len 10. A state that holds anything else, or is not of ten numbers, is refused
  * by 13 before any other test. A call that is not refused leaves the new state in its place. */

@@ -1,6 +1,6 @@
 //! Times every function of libjpeg_block.a beside the published Rust's, on the
 //! same inputs, in turn. The Rust has no dequantizing, screen, sameness, table
-//! by percent or queue; the plain loops below stand in its place. It has no
+//! by percent, search or queue; the plain loops below stand in its place. It has no
 //! 12-bit forward entry; its 8-bit one stands there, on the block with 1920 less
 //! in each sample, and in a second line our own. A plane's time is that of one
 //! block, beside the Rust's in a loop, and beside our own block entry's.
@@ -174,6 +174,48 @@ rust! {
         let (left, right) = output.split_at_mut(input.left.len());
         left.copy_from_slice(&input.left);
         right.copy_from_slice(&input.right);
+    }
+
+    rust_fewest_coefficients(input: &(Plane, [u8; 64], u64), output: &mut (u32, u64)) {
+        let (Plane { width, height, samples }, base, limit) = input;
+        let across = blocks(*width);
+        let trial = |percent: u32| {
+            let mut quant = [0; 64];
+            rust_percent_table(&(*base, percent), &mut quant);
+            let (mut error, mut count) = (0, 0);
+            for k in 0..across * blocks(*height) {
+                let (left, top) = (8 * (k % across), 8 * (k / across));
+                let mut block = [0; 64];
+                for (i, sample) in block.iter_mut().enumerate() {
+                    let (x, y) = ((left + i % 8).min(width - 1), (top + i / 8).min(height - 1));
+                    *sample = samples[width * y + x];
+                }
+                let coefficients = fdct::fdct_quantize(&block, &quant);
+                let mut products = [0; 64];
+                for n in 0..64 {
+                    products[n] = i32::from(coefficients[n]) * i32::from(quant[n].max(1));
+                }
+                let mut decoded = [0; 64];
+                idct::islow_block(&products, &mut decoded);
+                for y in 0..8.min(height - top) {
+                    for x in 0..8.min(width - left) {
+                        let d = u64::from(block[8 * y + x].abs_diff(decoded[8 * y + x]));
+                        error += d * d;
+                    }
+                }
+                count += coefficients.iter().filter(|c| **c != 0).count() as u64;
+            }
+            (error, count)
+        };
+        let (_, last) = trial(200);
+        let mut best = None;
+        for percent in 1..=200 {
+            let (error, count) = trial(percent);
+            if error <= *limit && best.is_none_or(|(_, fewest)| count <= fewest) {
+                best = Some((percent, count));
+            }
+        }
+        *output = best.map_or((0, 0), |(percent, count)| (percent, count - last));
     }
     rust_bench_queue_turn(input: &[u32; 10], output: &mut [u8; 4096]) {
         let (benches, mut last, mut waiting) = (input[0], input[1], *input);
@@ -627,6 +669,27 @@ fn main() {
             islow_plane_4x4 rust_islow_plane_4x4 islow_block_4x4 by 2, [u8; 16], narrow;
             islow_plane_2x2 rust_islow_plane_2x2 islow_block_2x2 by 4, [u8; 4], narrow;
         }
+    }
+    // For one block: 200 trials and the count at percent 200.
+    for (kind, width, height) in [("64x64", 64, 64), ("640x480", 640, 480)] {
+        let plane = any_plane(&mut Random(SEED), width, height);
+        let n = blocks(width) * blocks(height);
+        let inputs = [(plane, K1, 50 * (width * height) as u64)];
+        mode.run_blocks(
+            "fewest_coefficients",
+            kind,
+            n,
+            &inputs,
+            (0, 0),
+            rust_fewest_coefficients,
+            |(plane, base, limit), output| {
+                let Plane { samples, .. } = plane;
+                let found =
+                    jpeg_block::fewest_coefficients(samples, width, height, base, *limit, 200)
+                        .expect("no refusal");
+                *output = (found.percent.unwrap_or(0), found.off);
+            },
+        );
     }
     mode.run(
         "quantization_divisors",

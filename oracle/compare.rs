@@ -1,7 +1,7 @@
 //! Compares every function of libjpeg_block.a with the published Rust, and
 //! those that it does not have with stored.rs, records.rs, percents.rs,
-//! queues.rs, twelve_bit.rs and strips.rs, on many inputs; the counts of the
-//! 8-bit inverses with clamped.rs.
+//! searches.rs, queues.rs, twelve_bit.rs and strips.rs, on many inputs; the
+//! counts of the 8-bit inverses with clamped.rs.
 //!
 //! Arguments: the seconds to spend, and the seed. Each function is first called
 //! with lengths around every one that it takes. Then all are asked for a list of
@@ -30,6 +30,7 @@ mod percents;
 mod planes;
 mod queues;
 mod records;
+mod searches;
 #[allow(dead_code)]
 mod stored;
 mod strips;
@@ -59,6 +60,9 @@ const LIST: usize = 4_000;
 
 /// Planes in one list.
 const PLANES: usize = 20;
+
+/// Planes in one list that are searched, each at many limits.
+const SEARCHED: usize = 6;
 
 /// The lengths that are tried for each buffer: around 1, 4, 16 and 64.
 const LENGTHS: [usize; 13] = [0, 1, 2, 3, 4, 5, 15, 16, 17, 63, 64, 65, 128];
@@ -803,6 +807,30 @@ fn join_tried(random: &mut Random, (wl, wr, h): (usize, usize, usize)) -> Result
         return Err("not the picture coded".to_string());
     }
     Ok(())
+}
+
+fn fewest_coefficients(
+    samples: &[u8],
+    (width, height): (usize, usize),
+    base: &[u8],
+    (limit, trials): (u64, u32),
+    out: &mut [u64],
+) -> u32 {
+    // SAFETY: all are slices, and an exclusive one overlaps no other.
+    unsafe {
+        raw::jpeg_block_fewest_coefficients(
+            samples.as_ptr(),
+            samples.len(),
+            width,
+            height,
+            base.as_ptr(),
+            base.len(),
+            limit,
+            trials,
+            out.as_mut_ptr(),
+            out.len(),
+        )
+    }
 }
 
 /// Widths and heights around every one that a plane call takes.
@@ -1759,6 +1787,53 @@ impl Compare {
 
     /// Not in the published Rust: percents.rs computes these in its own way.
     /// Every percent with every quantizer first, then random tables.
+    /// Small planes, each at every limit that changes an answer and with every
+    /// number of trials of `searches::GIVEN`.
+    fn searches(&mut self) {
+        let mut tally = Tally::new("fewest_coefficients");
+        let call = |samples: &[u8], size, base: &[u8], to: &mut [u64]| {
+            fewest_coefficients(samples, size, base, (0, 3), to)
+        };
+        Self::plane_lengths(&mut tally, 9, call, |width, height| (width * height, 3));
+        let try_list = Box::new(move |seed, tally: &mut Tally| {
+            let mut random = Random(seed);
+            for _ in 0..SEARCHED {
+                let (plane, base) = searches::any_search(&mut random);
+                let trials = searches::trials(&plane, &base);
+                let size = (plane.width, plane.height);
+                for limit in searches::limits(&trials) {
+                    for given in searches::GIVEN {
+                        tally.cases += 1;
+                        let mut out = Lent::new(3);
+                        let status = fewest_coefficients(
+                            &plane.samples,
+                            size,
+                            &base,
+                            (limit, given),
+                            out.places(),
+                        );
+                        let expected = searches::answer(&trials, limit, given);
+                        if status != 0 || out.held() != expected || !out.guards() {
+                            if tally.differences == 0 {
+                                println!(
+                                    "{}: {} x {} {:?} under {base:?}, limit {limit}, {given} trials: \
+                                     here {status} {:?}, expected 0 {expected:?}",
+                                    tally.name,
+                                    plane.width,
+                                    plane.height,
+                                    plane.samples,
+                                    out.held()
+                                );
+                            }
+                            tally.differences += 1;
+                        }
+                    }
+                }
+            }
+        });
+        self.functions.push(Function { tally, try_list });
+    }
+
     fn percents(&mut self) {
         let mut tally = Tally::new("percent_table");
         for a in LENGTHS {
@@ -1901,6 +1976,7 @@ fn main() {
     compare.stored();
     compare.records();
     compare.percents();
+    compare.searches();
     compare.queues();
     compare.twelve_bit();
     compare.joins();

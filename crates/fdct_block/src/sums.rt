@@ -20,7 +20,7 @@ fn product(a: i16, b: i32) -> i64
 }
 
 // The 16-term sum of a fold against the entries of frequency n.
-fn scaled_coefficient(f: &[i16; 16], table: &[i32; 1024], n: usize) -> i64
+pub fn scaled_coefficient(f: &[i16; 16], table: &[i32; 1024], n: usize) -> i64
     requires { ⌜ n < 64 ⌝ }
     ensures { λ r. ⌜ r ≡ sumTo 16 (λ k. getD (now (f .entry)) k (pos 0) *ℤ getD (now (table .entry)) (16 * n + k) (pos 0)) ⌝ }
 {

@@ -18,6 +18,7 @@ use Rattle.integers.proofs.Order.{≤ℤ-+}
 use Rattle.integers.proofs.Ring.{+ℤ-left-comm, *ℤ-+ℤ, natAbs-+}
 use Rattle.lists.specs.Tab.{tab}
 use Rattle.lists.proofs.Tab.{length-tab, tab-getD}
+use Rattle.lists.proofs.Grid.{column-of, row-of}
 use Rattle.forward.specs.Sum.{sumTo, total}
 
 -- ---- integers
@@ -189,7 +190,7 @@ unfolding total
 total-const zero c = omega arith
 total-const (suc m) c = omega (arith, total-const m c)
 
-total-append : (f : ℕ → ℕ) (a b : ℕ) → total (a + b) f ≡ total a f + total b (λ j. f (a + j))
+pub total-append : (f : ℕ → ℕ) (a b : ℕ) → total (a + b) f ≡ total a f + total b (λ j. f (a + j))
 unfolding total
 total-append f a zero = ap (λ (n : ℕ). total n f) (add-zero a) ∙ sym (add-zero (total a f))
 total-append f a (suc b) = ap (λ (n : ℕ). total n f) (add-suc a b) ∙ omega (arith, total-append f a b)
@@ -199,6 +200,10 @@ pub total-rows : (f : ℕ → ℕ) (a h : ℕ) → total (a * h) f ≡ total h (
 unfolding total
 total-rows f a zero = ap (λ (k : ℕ). total k f) (mul-zero a)
 total-rows f a (suc h) = ap (λ (k : ℕ). total k f) (mul-suc a h) ∙ total-append f (a * h) a ∙ ap (λ (s : ℕ). s + total a (λ x. f (a * h + x))) (total-rows f a h)
+
+-- the places of h rows of w, row by row
+pub total-grid : (w h : ℕ) (g : ℕ → ℕ → ℕ) → total (w * h) (λ i. g (i % w) (i / w)) ≡ total h (λ y. total w (λ x. g x y))
+total-grid w h g = total-rows (λ i. g (i % w) (i / w)) w h ∙ total-ext h _ _ (λ y b. total-ext w _ _ (λ x a. λ i. g (column-of w a y i) (row-of w a y i)))
 
 -- rows of p terms beside rows of q
 pub total-beside : (f : ℕ → ℕ) (p q h : ℕ) → total ((p + q) * h) f ≡ total h (λ y. total p (λ x. f ((p + q) * y + x))) + total h (λ y. total q (λ x. f ((p + q) * y + (p + x))))

@@ -1,3 +1,4 @@
 pub mod Places
 pub mod Handed
 pub mod Counted
+pub mod Searched

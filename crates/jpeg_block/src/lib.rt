@@ -14,6 +14,7 @@ mod place;
 mod planes;
 mod queue;
 mod records;
+mod search;
 mod stored;
 mod strips;
 mod tables;

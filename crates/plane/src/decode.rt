@@ -64,7 +64,7 @@ fn put_block(
 }
 
 // The products of a block at full size.
-fn products_i32(coefficients: &[i16], quant: &[u8]) -> [i32; 64]
+pub fn products_i32(coefficients: &[i16], quant: &[u8]) -> [i32; 64]
     requires { ⌜ (length (now coefficients) ≡ 64) × (length (now quant) ≡ 64) ⌝ }
     ensures { λ r. ⌜ r ≡ fitted full (now (quant .entry)) (now (coefficients .entry)) ⌝ }
 {

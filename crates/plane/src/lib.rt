@@ -34,7 +34,7 @@ pub fn is_measured(n: usize) -> bool
 }
 
 // How many blocks n columns or rows take.
-fn blocks_of(n: usize) -> usize
+pub fn blocks_of(n: usize) -> usize
     requires { ⌜ n ≤ 4096 ⌝ }
     ensures { λ r. ⌜ r ≡ blocks n ⌝ }
     ensures { λ r. ⌜ r ≤ 512 ⌝ }
@@ -42,7 +42,7 @@ fn blocks_of(n: usize) -> usize
     (n + 7) / 8
 }
 
-fn lesser(a: usize, b: usize) -> usize
+pub fn lesser(a: usize, b: usize) -> usize
     ensures { λ r. ⌜ r ≡ min a b ⌝ }
 {
     if a < b {
@@ -90,7 +90,8 @@ fn block_at_edge(samples: &[u8], width: usize, height: usize, x: usize, y: usize
     block
 }
 
-fn block_at(samples: &[u8], width: usize, height: usize, x: usize, y: usize) -> [u8; 64]
+// The block in column x and row y of blocks: most lie inside the plane.
+pub fn block_at(samples: &[u8], width: usize, height: usize, x: usize, y: usize) -> [u8; 64]
     requires { ⌜ PlaneOf (now samples) width height ⌝ }
     requires { ⌜ (x < blocks width) × (y < blocks height) ⌝ }
     ensures { λ r. ⌜ r ≡ blockAt (now (samples .entry)) width height x y ⌝ }
