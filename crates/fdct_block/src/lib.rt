@@ -21,8 +21,7 @@ use crate::parity::write_even_even;
 use crate::parity::write_even_odd;
 use crate::parity::write_odd_even;
 use crate::parity::write_odd_odd;
-use crate::sums::quantized;
-use basis::basis_table;
+use crate::sums::quantized_by_row;
 
 // The 64 coefficients of a block in natural order, those of one parity of (u, v) after the other: the same 16 places hold the quadrant
 // of each in turn.
@@ -38,16 +37,14 @@ pub fn write_coefficients(samples: &[i16; 64], quant: &[u16; 64], out: &mut [i16
     write_odd_odd(samples, quant, &mut quadrant, out);
 }
 
-// Coefficient n of a block, by the one quadrant that it needs. Where n is not known in advance the table of 4 KB is first written to the
-// stack, which takes most of the time.
+// Coefficient n of a block, by the one quadrant and the one row of the basis that it needs.
 pub fn coefficient_at(samples: &[i16; 64], quantizer: u16, n: usize) -> i16
     requires { ⌜ ((i : ℕ) → natAbs (getD (now samples) i (pos 0)) ≤ 2 ^ 11) ⌝ }
     requires { ⌜ n < 64 ⌝ }
     ensures { λ r. ⌜ r ≡ coefficient (centredSum (now (samples .entry)) n) quantizer ⌝ }
     ensures { λ r. ⌜ natAbs r < 2 ^ 15 ⌝ }
 {
-    let table = basis_table();
     let mut quadrant = [0i16; 16];
     fold(samples, n % 8, n / 8, &mut quadrant);
-    quantized(&quadrant, &table, quantizer, n)
+    quantized_by_row(&quadrant, quantizer, n)
 }

@@ -10,6 +10,7 @@ ghost use Rattle.basis.specs.Basis.{basisTable};
 ghost use Rattle.quantize.specs.Quantize.{coefficient};
 ghost use Rattle.forward.specs.Sum.{sumTo};
 ghost use Rattle.forward.specs.Parity.{foldSum};
+use basis::basis_row;
 use quantize::quantize;
 
 fn product(a: i16, b: i32) -> i64
@@ -42,4 +43,27 @@ pub fn quantized(f: &[i16; 16], table: &[i32; 1024], quantizer: u16, n: usize) -
     ensures { λ r. ⌜ natAbs r < 2 ^ 15 ⌝ }
 {
     quantize(scaled_coefficient(f, table, n), quantizer)
+}
+
+// The 16-term sum of a fold against a row of the basis.
+fn scaled_by_row(f: &[i16; 16], row: &[i32; 16]) -> i64
+    ensures { λ r. ⌜ r ≡ sumTo 16 (λ k. getD (now (f .entry)) k (pos 0) *ℤ getD (now (row .entry)) k (pos 0)) ⌝ }
+{
+    let mut s = 0i64;
+    let mut k = 0;
+    while k < 16 {
+        s += product(f[k], row[k]);
+        k += 1;
+    }
+    s
+}
+
+// The same coefficient, where n is not known in advance.
+pub fn quantized_by_row(f: &[i16; 16], quantizer: u16, n: usize) -> i16
+    requires { ⌜ ((k : ℕ) → natAbs (getD (now f) k (pos 0)) ≤ 2 ^ 13) ⌝ }
+    requires { ⌜ n < 64 ⌝ }
+    ensures { λ r. ⌜ r ≡ coefficient (foldSum (now (f .entry)) n) quantizer ⌝ }
+    ensures { λ r. ⌜ natAbs r < 2 ^ 15 ⌝ }
+{
+    quantize(scaled_by_row(f, &basis_row(n)), quantizer)
 }

@@ -11,7 +11,7 @@ ghost use Rattle.percent.specs.Nonzeros.{nonzeros};
 ghost use Rattle.fewest.specs.Fewest.{squared};
 ghost use Rattle.fewest.specs.Blocks.{codedSums, errorTerm, errorWithin, blockTrial};
 use crate::Trial;
-use idct_8x8::islow_block_i32;
+use idct_8x8::write_i32;
 use plane::decode::products_i32;
 use quantize::quantize;
 
@@ -156,7 +156,7 @@ pub fn try_table(
     let coefficients = quantize_sums(sums, quant);
     let products = products_i32(&coefficients, quant);
     let mut decoded = [0u8; 64];
-    islow_block_i32(&products, &mut decoded);
+    write_i32(&products, &mut decoded);
     Trial {
         error: error_within(block, &decoded, columns, rows),
         count: count_nonzeros(&coefficients),

@@ -95,8 +95,28 @@ pub fn islow_block_top_half(input: &[i16], output: &mut [u8]) -> Clamped
     clamped(rows(&w, output))
 }
 
-// The input in an array of this crate's own: of that the compiler knows that it overlaps no column, and works on several columns at once. Of
-// a slice it knows so only where it sees where the slice comes from, which it does not in a function that two others call.
+// The samples of the 8×8 block of 32-bit numbers, for the entry, a plane and a search; the answer has both counts in one number (`tallyOne`).
+// So they are handed on in a register: a struct goes through memory, where two counts written one by one are slow to read as one. The
+// numbers come in an array: of what is behind a slice that more than one caller lends the compiler does not know that it overlaps no column,
+// and does not work on several columns at once.
+pub fn write_i32(numbers: &[i32; 64], output: &mut [u8]) -> u32
+    requires { ⌜ (length (now numbers) ≡ 64) × (length (now output) ≡ 64) ⌝ }
+    ensures { λ r. ⌜ r ≡ counted tallyOne (unclamped eight (now (numbers .entry))) ⌝ }
+    ensures { λ _. ⌜ now (output .exit) ≡ block eight (now (numbers .entry)) ⌝ }
+{
+    let all = &numbers[..];
+    if all_zero_i32(&all[1..64]) {
+        return put_level(output, numbers[0]);
+    }
+    if all_fit(numbers, 64) {
+        let mut w = [[0i32; 8]; 8];
+        columns_as_i16(numbers, &mut w);
+        return rows(&w, output);
+    }
+    let w = columns_i32(numbers, 8);
+    rows(&w, output)
+}
+
 fn copied(input: &[i32]) -> [i32; 64]
     requires { ⌜ length (now input) ≡ 64 ⌝ }
     ensures { λ r. ⌜ r ≡ now (input .entry) ⌝ }
@@ -110,26 +130,6 @@ fn copied(input: &[i32]) -> [i32; 64]
     block
 }
 
-// The samples of the 8×8 block of 32-bit numbers, for the entry and for a plane; the answer has both counts in one number (`tallyOne`). So
-// they are handed on in a register: a struct goes through memory, where two counts written one by one are slow to read as one.
-pub fn write_i32(input: &[i32], output: &mut [u8]) -> u32
-    requires { ⌜ (length (now input) ≡ 64) × (length (now output) ≡ 64) ⌝ }
-    ensures { λ r. ⌜ r ≡ counted tallyOne (unclamped eight (now (input .entry))) ⌝ }
-    ensures { λ _. ⌜ now (output .exit) ≡ block eight (now (input .entry)) ⌝ }
-{
-    if all_zero_i32(&input[1..64]) {
-        return put_level(output, input[0]);
-    }
-    let block = copied(input);
-    if all_fit(&block, 64) {
-        let mut w = [[0i32; 8]; 8];
-        columns_as_i16(&block, &mut w);
-        return rows(&w, output);
-    }
-    let w = columns_i32(&block, 8);
-    rows(&w, output)
-}
-
 // The 8×8 block of 32-bit numbers.
 pub fn islow_block_i32(input: &[i32], output: &mut [u8]) -> Clamped
     ensures { λ r. ⌜ r ≡ clampedAnswer (inverseTests 64 (now (input .entry)) (now (output .entry))) (blockRaised eight (now (input .entry))) (blockLowered eight (now (input .entry))) ⌝ }
@@ -141,7 +141,8 @@ pub fn islow_block_i32(input: &[i32], output: &mut [u8]) -> Clamped
     if output.len() != 64 {
         return refused(3);
     }
-    clamped(write_i32(input, output))
+    let numbers = copied(input);
+    clamped(write_i32(&numbers, output))
 }
 
 // The block whose rows 4..7 are zero, or count as zero: they are not read.

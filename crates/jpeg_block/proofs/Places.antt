@@ -22,15 +22,16 @@ use Rattle.guarded_quantizer.specs.declared.Quantized.{Quantized}
 use Rattle.guarded_quantizer.specs.Divisors.{reciprocals, tableTests, zeroDivisors, divisorsAnswer}
 use Rattle.guarded_quantizer.specs.Record.{acPlaces, recordOf}
 use Rattle.guarded_quantizer.specs.Answer.{coefficientsOf, guardedTests, zeroRecord, guardedAnswer}
+use Rattle.guarded_quantizer.proofs.Answer.{guarded-lengths}
 use Rattle.agreement.specs.Agreement.{canonicalAnswer}
-use Rattle.jpeg_block.specs.Places.{placeTests, flag, recordPlaceTests, recordTests, handed}
+use Rattle.jpeg_block.specs.Places.{placeTests, flag, recordPlaceTests, recordTests}
 
 pub as-flag : (yes : Bool) → boolByte yes ≡ flag yes
 unfolding flag
 as-flag false = refl
 as-flag true = refl
 
-set-only : {A : Type 0} (place : List A) (value : A) → length place ≡ 1 → set place 0 value ≡ value ∷ []
+pub set-only : {A : Type 0} (place : List A) (value : A) → length place ≡ 1 → set place 0 value ≡ value ∷ []
 set-only [] value h = absurd (omega arith)
 set-only (x ∷ []) value h = refl
 set-only (x ∷ y ∷ r) value h = absurd (omega arith)
@@ -80,15 +81,6 @@ module _ (quant : List ℕ) (out : List Float) (made : MadeDivisors) (called : m
 
 -- ---- the record
 
-module _ (xs : List Float) where
-  pub handed-all : length xs ≡ 64 → tab 64 (λ k. getD xs k nan) ≡ handed xs
-  unfolding handed
-  handed-all h = simp (has h) (tab-getD nan xs 64 h)
-
-  pub handed-none : (length xs ≡ 64 → ⊥) → zeroDivisors ≡ handed xs
-  unfolding handed
-  handed-none h = simp (lacks h) refl
-
 -- where no test fails, the lengths are those wanted
 pub lengths : {s : ℕ} (number n d a b q : ℕ) → s ≡ written number (status (recordTests n d a b q)) number → s ≡ 0 → (n ≡ 64) × (d ≡ 1) × (a ≡ 64) × (b ≡ 1) × (q ≡ 64)
 unfolding recordTests
@@ -117,10 +109,9 @@ module _ (answer : Quantized) (us : List Test) (dc ac : List ℤ) (bitmap diviso
   pub put-refused : (s ≡ 0 → ⊥) → Put answer us dc ac bitmap divisors s dc ac bitmap divisors
   put-refused h = (tested, (kept _ dc h, (kept _ ac h, (kept _ bitmap h, kept _ divisors h))))
 
-  pub put-stored : s ≡ 0 → length dc ≡ 1 → length bitmap ≡ 1 → {x : ℤ} {y : List ℤ} {z : List ℕ} → x ≡ answer .block .dc → y ≡ tab 64 (λ z. getD (answer .block .«ac_coefficients») z (pos 0)) →
-      z ≡ tab 64 (λ n. getD (answer .block .divisors) n 0) → Put answer us dc ac bitmap divisors 0 (set dc 0 x) y (set bitmap 0 (answer .block .«nonzero_ac»)) z
-  put-stored e one-dc one-bitmap {x} first all table =
-      (sym e ∙ tested, (wrote _ dc refl (set-only dc x one-dc ∙ ap (λ v. v ∷ []) first), (wrote _ ac refl all, (wrote _ bitmap refl (set-only bitmap _ one-bitmap), wrote _ divisors refl table))))
+  pub put-stored : s ≡ 0 → {x y : List ℤ} {z w : List ℕ} → x ≡ answer .block .dc ∷ [] → y ≡ tab 64 (λ z. getD (answer .block .«ac_coefficients») z (pos 0)) →
+      z ≡ answer .block .«nonzero_ac» ∷ [] → w ≡ tab 64 (λ n. getD (answer .block .divisors) n 0) → Put answer us dc ac bitmap divisors 0 x y z w
+  put-stored e first all bits table = (sym e ∙ tested, (wrote _ dc refl first, (wrote _ ac refl all, (wrote _ bitmap refl bits, wrote _ divisors refl table))))
 
 by-zero : {A : Type 0} (r : ℕ) {v w : A} (held : A) → (r ≡ 0 → v ≡ w) → written r v held ≡ written r w held
 by-zero r {v} {w} held f = go (ℕ-discrete r 0)
@@ -153,19 +144,52 @@ module _ (block quant : List ℕ) (us : List Test) (answer : Quantized) (dc ac :
         ),
       )
 
--- the guarded entry's, with the reciprocals rs handed over
-pub guarded-recorded : (block quant : List ℕ) (rs ds : List Float) (dc ac : List ℤ) (bitmap divisors : List ℕ) {r : ℕ} {d a : List ℤ} {b q : List ℕ} (result : Quantized) → result ≡ guardedAnswer block quant ds → ds ≡ handed rs →
-    Put result (recordTests (length rs) (length dc) (length ac) (length bitmap) (length divisors)) dc ac bitmap divisors r d a b q →
-    Recorded block quant (recordTests (length rs) (length dc) (length ac) (length bitmap) (length divisors)) (guardedAnswer block quant rs) dc ac bitmap divisors r d a b q
-unfolding recordTests guardedAnswer
-guarded-recorded block quant rs ds dc ac bitmap divisors {r} result called by-value put =
-    recorded block quant (recordTests (length rs) (length dc) (length ac) (length bitmap) (length divisors)) (guardedAnswer block quant rs) dc ac bitmap divisors result (ap (λ (x : Quantized). x .status) called) tt
-    (length-ac quant (coefficientsOf block quant rs) _) (length-divisors quant (coefficientsOf block quant rs) _) same put
+-- where no test of both fails, none of the first do
+first-zero : (ts us : List Test) {number s : ℕ} → number ≡ status ts → s ≡ written number (status us) number → s ≡ 0 → status ts ≡ 0
+first-zero ts us {number} called tested z = go (ℕ-discrete number 0)
   where
-    same : r ≡ 0 → result .block ≡ guardedAnswer block quant rs .block
-    same z =
-        let long = lengths (result .status) (length rs) (length dc) (length ac) (length bitmap) (length divisors) (put .0) z .0 in
-        ap (λ (x : Quantized). x .block) (called ∙ ap (guardedAnswer block quant) (by-value ∙ sym (handed-all rs long) ∙ tab-getD nan rs 64 long))
+    go : Dec (number ≡ 0) → status ts ≡ 0
+    go (yes e) = sym called ∙ e
+    go (no h) = sym called ∙ kept (status us) number h ∙ sym tested ∙ z
+
+record-answered : (block quant : List ℕ) (rs : List Float) → status (guardedTests block quant) ≡ 0 → recordOf quant (coefficientsOf block quant rs) ≡ guardedAnswer block quant rs .block
+unfolding guardedAnswer
+record-answered block quant rs e = wrote _ zeroRecord e refl
+
+-- the guarded entry's, with the reciprocals rs handed over and its status tested before its record is made
+module _ (block quant : List ℕ) (rs : List Float) (dc ac : List ℤ) (bitmap divisors : List ℕ) where
+  abbrev tests : List Test
+  tests = recordTests (length rs) (length dc) (length ac) (length bitmap) (length divisors)
+
+  guarded-put : {r : ℕ} {d a : List ℤ} {b q : List ℕ} → Put (guardedAnswer block quant rs) tests dc ac bitmap divisors r d a b q →
+      Recorded block quant tests (guardedAnswer block quant rs) dc ac bitmap divisors r d a b q
+  unfolding recordTests guardedAnswer
+  guarded-put =
+      recorded block quant tests (guardedAnswer block quant rs) dc ac bitmap divisors (guardedAnswer block quant rs) refl tt
+      (length-ac quant (coefficientsOf block quant rs) _) (length-divisors quant (coefficientsOf block quant rs) _) (λ z. refl)
+
+  module _ {number s : ℕ} (called : number ≡ status (guardedTests block quant)) (tested : s ≡ written number (status tests) number) where
+    answered : s ≡ written (guardedAnswer block quant rs .status) (status tests) (guardedAnswer block quant rs .status)
+    unfolding guardedAnswer
+    answered = tested ∙ (λ i. written (called i) (status tests) (called i))
+
+    pub guarded-refused : (s ≡ 0 → ⊥) → Recorded block quant tests (guardedAnswer block quant rs) dc ac bitmap divisors s dc ac bitmap divisors
+    guarded-refused h = guarded-put (put-refused (guardedAnswer block quant rs) tests dc ac bitmap divisors answered h)
+
+    module _ (e : s ≡ 0) where
+      accepted : status (guardedTests block quant) ≡ 0
+      accepted = first-zero (guardedTests block quant) tests called tested e
+
+      pub guarded-long : (length block ≡ 64) × (length quant ≡ 64)
+      guarded-long = guarded-lengths block quant refl accepted
+
+      pub guarded-stored : {made : QuantizedBlock} {x y : List ℤ} {z w : List ℕ} → made ≡ recordOf quant (coefficientsOf block quant rs) → x ≡ made .dc ∷ [] → y ≡ tab 64 (λ z. getD (made .«ac_coefficients») z (pos 0)) →
+          z ≡ made .«nonzero_ac» ∷ [] → w ≡ tab 64 (λ n. getD (made .divisors) n 0) → Recorded block quant tests (guardedAnswer block quant rs) dc ac bitmap divisors 0 x y z w
+      guarded-stored {made} em first all bits table =
+          let same = em ∙ record-answered block quant rs accepted in
+          guarded-put (put-stored (guardedAnswer block quant rs) tests dc ac bitmap divisors answered e
+          (first ∙ ap (λ (m : QuantizedBlock). m .dc ∷ []) same) (all ∙ ap (λ (m : QuantizedBlock). tab 64 (λ z. getD (m .«ac_coefficients») z (pos 0))) same)
+          (bits ∙ ap (λ (m : QuantizedBlock). m .«nonzero_ac» ∷ []) same) (table ∙ ap (λ (m : QuantizedBlock). tab 64 (λ n. getD (m .divisors) n 0)) same))
 
 -- that of the canonical coefficients: its places are tested as the guarded entry's with 64 reciprocals
 pub canonical-recorded : (block quant : List ℕ) (dc ac : List ℤ) (bitmap divisors : List ℕ) {r : ℕ} {d a : List ℤ} {b q : List ℕ} (result : Quantized) → result ≡ canonicalAnswer block quant →

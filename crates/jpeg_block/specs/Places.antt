@@ -6,10 +6,8 @@ use mathlib.Core.List.{List, [], _∷_}
 use Prim.Native.Nat.{ℕ}
 use lib.Dec.{eqb}
 use lib.IntN.{ℤ}
-use lib.Ieee.{Float}
 use Rattle.refusals.specs.Refusals.{Test, _unless_, _of_}
 use Rattle.guarded_quantizer.specs.declared.QuantizedBlock.{QuantizedBlock}
-use Rattle.guarded_quantizer.specs.Divisors.{zeroDivisors}
 
 -- 3, a place not of one number
 abbrev pub placeTests : {A : Type 0} → List A → List Test
@@ -34,7 +32,3 @@ handedTests ac divisors ac′ divisors′ = 1 unless ac of 64 ∷ 1 unless ac′
 -- the record of the parts handed over: the bitmap is not asked for, since sameness does not look at it
 unfoldable pub handedRecord : ℤ → List ℤ → List ℕ → QuantizedBlock
 handedRecord dc ac divisors = record { dc = dc; «ac_coefficients» = ac; «nonzero_ac» = 0; divisors = divisors }
-
--- the divisors by value; 64 zeros for such as are not 64, which the call refuses
-unfoldable pub handed : List Float → List Float
-handed reciprocals = cond (reciprocals of 64) reciprocals zeroDivisors

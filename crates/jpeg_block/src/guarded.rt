@@ -8,11 +8,12 @@ ghost use Rattle.lists.specs.Tab.{tab};
 ghost use Rattle.refusals.specs.Refusals.{_unless_, _of_, status, written};
 ghost use Rattle.guarded_quantizer.specs.Divisors.{tableTests, divisorsAnswer};
 ghost use Rattle.guarded_quantizer.specs.Answer.{guardedTests, guardedAnswer};
-ghost use Rattle.jpeg_block.specs.Places.{recordTests, handed};
+ghost use Rattle.jpeg_block.specs.Places.{recordTests};
 use fdct_f64::quantization_divisors;
-use guarded_quantizer::QuantizationDivisors;
 use guarded_quantizer::Quantized;
-use transform::fdct_quantize;
+use guarded_quantizer::QuantizedBlock;
+use transform::guarded_status;
+use transform::record_of;
 
 fn put_reciprocals(from: &[f64; 64], to: &mut [f64])
     requires { ⌜ length (now to) ≡ 64 ⌝ }
@@ -82,21 +83,6 @@ fn record_status(
     0
 }
 
-// The divisors by value; 64 zeros where they are not 64, which is refused.
-fn by_value(reciprocals: &[f64]) -> QuantizationDivisors
-    ensures { λ r. ⌜ r .reciprocals ≡ handed (now (reciprocals .entry)) ⌝ }
-{
-    let mut held = [0.0f64; 64];
-    if reciprocals.len() == 64 {
-        let mut n = 0;
-        while n < 64 {
-            held[n] = reciprocals[n];
-            n += 1;
-        }
-    }
-    QuantizationDivisors { reciprocals: held }
-}
-
 fn put_ac(from: &[i16; 64], to: &mut [i16])
     requires { ⌜ length (now to) ≡ 64 ⌝ }
     ensures { λ _. ⌜ now (to .exit) ≡ tab 64 (λ z. getD (now (from .entry)) z (pos 0)) ⌝ }
@@ -117,6 +103,26 @@ fn put_divisors(from: &[u8; 64], to: &mut [u8])
         to[n] = from[n];
         n += 1;
     }
+}
+
+// The parts of a record into lent places.
+fn put_parts(
+    made: QuantizedBlock,
+    dc: &mut [i16],
+    ac: &mut [i16],
+    nonzero_ac: &mut [u64],
+    record_divisors: &mut [u8],
+)
+    requires { ⌜ (length (now dc) ≡ 1) × (length (now ac) ≡ 64) × (length (now «nonzero_ac») ≡ 1) × (length (now «record_divisors») ≡ 64) ⌝ }
+    ensures { λ _. ⌜ now (dc .exit) ≡ made .dc ∷ [] ⌝ }
+    ensures { λ _. ⌜ now (ac .exit) ≡ tab 64 (λ z. getD (made .«ac_coefficients») z (pos 0)) ⌝ }
+    ensures { λ _. ⌜ now («nonzero_ac» .exit) ≡ made .«nonzero_ac» ∷ [] ⌝ }
+    ensures { λ _. ⌜ now («record_divisors» .exit) ≡ tab 64 (λ n. getD (made .divisors) n 0) ⌝ }
+{
+    dc[0] = made.dc;
+    put_ac(&made.ac_coefficients, ac);
+    put_divisors(&made.divisors, record_divisors);
+    nonzero_ac[0] = made.nonzero_ac;
 }
 
 // The parts of an answer's record into lent places, by its status and by the lengths, also that of the reciprocals handed over.
@@ -145,16 +151,12 @@ pub fn put_record(
     if status != 0 {
         return status;
     }
-    let record = answer.block;
-    dc[0] = record.dc;
-    put_ac(&record.ac_coefficients, ac);
-    put_divisors(&record.divisors, record_divisors);
-    nonzero_ac[0] = record.nonzero_ac;
+    put_parts(answer.block, dc, ac, nonzero_ac, record_divisors);
     0
 }
 
 // `transform::fdct_quantize`: refusals 1, 2 and 5, then 2 for the divisors and 3 for a place. The divisors are used as handed over,
-// whatever they hold; the record's are those of the table.
+// whatever they hold; the record's are those of the table. They stay where they lie: by value they would be copied twice.
 #[no_mangle]
 pub extern "C" fn jpeg_block_fdct_quantize_guarded(
     block: &[u8],
@@ -171,6 +173,23 @@ pub extern "C" fn jpeg_block_fdct_quantize_guarded(
     ensures { λ r. ⌜ now («nonzero_ac» .exit) ≡ written r (guardedAnswer (now (block .entry)) (now (quant .entry)) (now (divisors .entry)) .block .«nonzero_ac» ∷ []) (now («nonzero_ac» .entry)) ⌝ }
     ensures { λ r. ⌜ now («record_divisors» .exit) ≡ written r (guardedAnswer (now (block .entry)) (now (quant .entry)) (now (divisors .entry)) .block .divisors) (now («record_divisors» .entry)) ⌝ }
 {
-    let answer = fdct_quantize(block, quant, by_value(divisors));
-    put_record(answer, divisors.len(), dc, ac, nonzero_ac, record_divisors)
+    let status = record_status(
+        guarded_status(block, quant),
+        divisors.len(),
+        dc.len(),
+        ac.len(),
+        nonzero_ac.len(),
+        record_divisors.len(),
+    );
+    if status != 0 {
+        return status;
+    }
+    put_parts(
+        record_of(block, quant, divisors),
+        dc,
+        ac,
+        nonzero_ac,
+        record_divisors,
+    );
+    0
 }

@@ -165,6 +165,8 @@ pub fn product(coefficient: i16, quantizer: u8) -> i32
     (coefficient as i32) * (divisor(quantizer as u16) as i32)
 }
 
+// Four products are made before any is stored, so that the compiler makes them at once: it cannot know that the output lies apart from
+// the inputs, and would ask that first of a plain loop.
 fn write_products(coefficients: &[i16], quant: &[u8], out: &mut [i32])
     requires { ⌜ length (now coefficients) ≡ 64 ⌝ }
     requires { ⌜ length (now quant) ≡ 64 ⌝ }
@@ -173,8 +175,15 @@ fn write_products(coefficients: &[i16], quant: &[u8], out: &mut [i32])
 {
     let mut n = 0;
     while n < 64 {
-        out[n] = product(coefficients[n], quant[n]);
-        n += 1;
+        let first = product(coefficients[n], quant[n]);
+        let second = product(coefficients[n + 1], quant[n + 1]);
+        let third = product(coefficients[n + 2], quant[n + 2]);
+        let fourth = product(coefficients[n + 3], quant[n + 3]);
+        out[n] = first;
+        out[n + 1] = second;
+        out[n + 2] = third;
+        out[n + 3] = fourth;
+        n += 4;
     }
 }
 

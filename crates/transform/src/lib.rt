@@ -10,7 +10,10 @@ mod record;
 pub mod same;
 
 ghost use mathlib.Core.Path.{_≡_};
-ghost use Rattle.guarded_quantizer.specs.Answer.{quantized, zeroRecord, guardedAnswer};
+ghost use lib.ListN.{length};
+ghost use Rattle.refusals.specs.Refusals.{status};
+ghost use Rattle.guarded_quantizer.specs.Record.{recordOf};
+ghost use Rattle.guarded_quantizer.specs.Answer.{coefficientsOf, guardedTests, quantized, zeroRecord, guardedAnswer};
 use crate::constant::all_equal;
 use crate::constant::constant_record;
 use crate::guarded::guarded_coefficients;
@@ -34,29 +37,46 @@ fn refused(status: u32) -> Quantized
     }
 }
 
+// The entry's status: refusals 1, 2 and 5.
+pub fn guarded_status(block: &[u8], quant: &[u8]) -> u32
+    ensures { λ r. ⌜ r ≡ status (guardedTests (now (block .entry)) (now (quant .entry))) ⌝ }
+{
+    if block.len() != 64 {
+        return 1;
+    }
+    if quant.len() != 64 {
+        return 2;
+    }
+    if has_zero(quant) {
+        return 5;
+    }
+    0
+}
+
+// The record of a block that is not refused. The reciprocals are lent, so that a caller that has them in a slice need not copy them.
+pub fn record_of(block: &[u8], quant: &[u8], reciprocals: &[f64]) -> QuantizedBlock
+    requires { ⌜ (length (now block) ≡ 64) × (length (now quant) ≡ 64) ⌝ }
+    requires { ⌜ length (now reciprocals) ≡ 64 ⌝ }
+    ensures { λ r. ⌜ r ≡ recordOf (now (quant .entry)) (coefficientsOf (now (block .entry)) (now (quant .entry)) (now (reciprocals .entry))) ⌝ }
+{
+    if all_equal(block) {
+        return constant_record(block, quant);
+    }
+    let coefficients = guarded_coefficients(block, quant, reciprocals);
+    from_natural_order(&coefficients, quant)
+}
+
 // The divisors are used as handed over, whatever they hold; the record carries those of `quant`.
 pub fn fdct_quantize(block: &[u8], quant: &[u8], divisors: QuantizationDivisors) -> Quantized
     ensures { λ r. ⌜ r ≡ guardedAnswer (now (block .entry)) (now (quant .entry)) (divisors .reciprocals) ⌝ }
 {
-    if block.len() != 64 {
-        return refused(1);
-    }
-    if quant.len() != 64 {
-        return refused(2);
-    }
-    if has_zero(quant) {
-        return refused(5);
-    }
-    if all_equal(block) {
-        return Quantized {
-            status: 0,
-            block: constant_record(block, quant),
-        };
+    let status = guarded_status(block, quant);
+    if status != 0 {
+        return refused(status);
     }
     let reciprocals = divisors.reciprocals;
-    let coefficients = guarded_coefficients(block, quant, &reciprocals);
     Quantized {
         status: 0,
-        block: from_natural_order(&coefficients, quant),
+        block: record_of(block, quant, &reciprocals),
     }
 }

@@ -1,10 +1,8 @@
 -- `idct_8x8::write_i32` meets its contract. Assumes nothing.
-use mathlib.Core.Path.{_≡_, refl, ap, subst, _∙_}
-use mathlib.Core.List.{List}
+use mathlib.Core.Path.{refl, ap, subst, _∙_}
 use native.Mathlib.Omega.{arith}
 use borrow.Author.Needs.{needs}
 use lib.ListN.{length}
-use lib.IntN.{ℤ}
 use Rattle.integers.specs.Linear.{listed}
 use Rattle.passes.specs.Passes.{eight, columnPass}
 use Rattle.block.specs.Block.{columns}
@@ -21,20 +19,16 @@ returns-level c =
     let put = c .before .before in
     let dc = put .before in
     let zero = dc .before .before in
-    let s = zero .before .before .before .before in
-    let xs = s .args .input .now in
+    let s = zero .before .before .before .before .before in
+    let xs = s .args .numbers .now in
     level-made eight refl xs (subst Alone (first-all xs (s .pre .0)) (rows-alone 8 63 xs (omega arith) (zero .before .all-zero-i32 .ensures) (zero .if1 .taken)))
     (s .pre .1) (dc-read (dc .put-level-arg2 .given) refl) (put .put-level .ensures)
-
--- what is read is the input
-long : (c : tie.After-copied) → length (c .copied .result) ≡ 64
-long c = ap length (c .copied .ensures) ∙ c .before .before .before .before .before .pre .0
 
 columns-as-i16-requires : tie.Need-columns-as-i16-requires
 columns-as-i16-requires c κs =
     let fit = c .before .before in
-    let k = fit .before .before .before in
-    ((long k, refl), first-fit (k .copied .result) 64 (fit .before .all-fit .ensures) (fit .if2 .taken))
+    let s = fit .before .before .before .before .before .before .before .before in
+    ((s .pre .0, refl), first-fit (s .args .numbers .now) 64 (fit .before .all-fit .ensures) (fit .if2 .taken))
 
 rows-requires : tie.Need-rows-requires
 rows-requires c κs =
@@ -47,20 +41,19 @@ unfolding eight
 returns-16 c =
     let stored = c .before .before in
     let made = stored .before .before .before in
-    let k = made .before .before .before .before .before .before in
-    columns-made eight _ (made .columns-as-i16 .ensures ∙ ap (columns (columnPass eight)) (k .copied .ensures)) (stored .rows .ensures)
+    columns-made eight _ (made .columns-as-i16 .ensures) (stored .rows .ensures)
 
 returns-any : tie.Need-returns-3
 unfolding eight
 returns-any c =
     let stored = c .before .before in
     let made = stored .before .before .before in
-    let k = made .before .before .before .before .before in
-    columns-made eight _ (made .columns-i32 .ensures ∙ ap (columns (columnPass eight)) (first-all (k .copied .result) (long k) ∙ k .copied .ensures)) (stored .rows2 .ensures)
+    let s = made .before .before .before .before .before .before .before .before .before .before in
+    columns-made eight _ (made .columns-i32 .ensures ∙ ap (columns (columnPass eight)) (first-all (s .args .numbers .now) (s .pre .0))) (stored .rows2 .ensures)
 
 pub write-i32-spec : {M : Type 1} → statement M
 write-i32-spec =
     tie.close
     (tie.spec (λ c. search needs) (λ c. search needs) (λ c. search needs) (λ c κs. search needs) (λ c. search needs) (λ c κs. search needs) (λ c. search needs) returns-level
-    (λ c κs. search needs) (λ c. search needs) (λ c κs. search needs) (λ c. search needs) columns-as-i16-requires rows-requires (λ c. search needs) returns-16
-    (λ c. search needs) (λ c κs. search needs) (λ c κs. search needs) (λ c. search needs) returns-any)
+    (λ c κs. search needs) columns-as-i16-requires rows-requires (λ c. search needs) returns-16
+    (λ c κs. search needs) (λ c κs. search needs) (λ c. search needs) returns-any)

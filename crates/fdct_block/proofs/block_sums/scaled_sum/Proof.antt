@@ -5,7 +5,7 @@ use borrow.Author.Needs.{needs}
 use lib.IntN.{ℤ}
 use Rattle.forward.specs.Parity.{foldSum}
 use Rattle.forward.proofs.Folding.{fold-sum}
-use Rattle.fdct_block.proofs.Summed.{summed, read}
+use Rattle.fdct_block.proofs.Terms.{by-table, read-sum}
 use Rattle.fdct_block.proofs.block_sums.scaled_sum.Statement.{statement}
 use Rattle.fdct_block.proofs.block_sums.scaled_sum.Tie as tie
 
@@ -14,7 +14,7 @@ returns c =
     let f = c .before .before in
     let s = f .before .before in
     let a = s .args in
-    let z = read _ (f .fold .ensures .1) (a .n) (s .pre .1 .1) (summed _ (f .fold .ensures .1) (a .n) (s .pre .1 .1) (s .pre .1 .0) (c .scaled-coefficient .ensures)) in
+    let z = read-sum _ (f .fold .ensures .1) (a .n) (s .pre .1 .1) (by-table _ (f .fold .ensures .1) (a .n) (s .pre .1 .1) (s .pre .1 .0) (c .scaled-coefficient .ensures)) in
     (z .0 ∙ ap (λ (g : List ℤ). foldSum g (a .n)) (f .fold .ensures .0) ∙ sym (fold-sum (a .samples .now) (a .n)), z .1)
 
 pub scaled-sum-spec : {M : Type 1} → statement M

@@ -1,16 +1,13 @@
--- `fdct_block::sums::quantized` meets its contract. Assumes nothing.
+-- `fdct_block::sums::quantized` meets its contract: the table's entries follow the rule, and the sum is at most 2^46. Assumes nothing.
 use Prim.Native.Nat.{_^_, _<_, _≤_}
-use mathlib.Core.Path.{_≡_, sym, ap, subst, _∙_}
+use mathlib.Core.Path.{_≡_}
 use mathlib.Core.List.{List}
 use borrow.Author.Needs.{needs}
 use lib.IntN.{ℤ, natAbs}
-use mir.Syntax.{w16, w64}
+use mir.Syntax.{w64}
 use mir.Val.{toZ, ofZ}
-use mir.ValLaws.{toZ-ofZ}
-use Rattle.integers.proofs.Bound.{small-fits}
-use Rattle.quantize.specs.Quantize.{coefficient}
 use Rattle.forward.specs.Parity.{foldSum}
-use Rattle.fdct_block.proofs.Summed.{summed, read}
+use Rattle.fdct_block.proofs.Terms.{by-table, read-sum, kept-coefficient}
 use Rattle.fdct_block.proofs.sums.quantized.Statement.{statement}
 use Rattle.fdct_block.proofs.sums.quantized.Tie as tie
 
@@ -21,15 +18,9 @@ scaled : (c : tie.After-scaled-coefficient) →
 scaled c =
     let s = c .before in
     let f : List ℤ = s .args .f .now in
-    let h : s .args .n < 64 = s .pre .1 .1 in
-    read f (s .pre .0) (s .args .n) h (summed f (s .pre .0) (s .args .n) h (s .pre .1 .0) (c .scaled-coefficient .ensures))
-
-returns : tie.Need-returns
-returns c =
-    let q = c .quantize in
-    let kept = toZ-ofZ w16 (q .result) (small-fits w16 (q .result) (q .ensures .1)) in
-    let value = ap (λ (z : ℤ). coefficient z (c .before .before .args .quantizer)) (scaled (c .before) .0) in
-    (kept ∙ q .ensures .0 ∙ value, subst (λ (z : ℤ). natAbs z < 2 ^ 15) (sym kept) (q .ensures .1))
+    let n = s .args .n in
+    let h : n < 64 = s .pre .1 .1 in
+    read-sum f (s .pre .0) n h (by-table f (s .pre .0) n h (s .pre .1 .0) (c .scaled-coefficient .ensures))
 
 pub quantized-spec : {M : Type 1} → statement M
-quantized-spec = tie.close (tie.spec (λ c κs. search needs) (λ c κs. scaled c .1) returns)
+quantized-spec = tie.close (tie.spec (λ c κs. search needs) (λ c κs. scaled c .1) (λ c. kept-coefficient (c .before .before .args .quantizer) (c .quantize .ensures) (scaled (c .before) .0)))

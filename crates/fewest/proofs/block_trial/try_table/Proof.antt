@@ -5,10 +5,8 @@ use borrow.Author.Needs.{needs}
 use lib.ListN.{length}
 use lib.IntN.{ℤ}
 use Rattle.lists.proofs.Tab.{length-tab}
-use Rattle.refusals.proofs.Refusals.{has, _then_, left}
 use Rattle.passes.specs.Passes.{eight}
 use Rattle.block.specs.Block.{block}
-use Rattle.block.proofs.Counts.{answer-status}
 use Rattle.plane.specs.Scale.{full, fitted, blockSamples}
 use Rattle.percent.specs.Nonzeros.{nonzeros}
 use Rattle.fewest.specs.Blocks.{codedSums, errorWithin, blockError, blockTrial}
@@ -20,15 +18,17 @@ coded : (c : tie.After-count-nonzeros) → (let q = c .before .before .before .b
     q .quantize-sums .result ≡ codedSums (q .before .before .args .sums .now) (q .before .before .args .quant .now))
 coded c = c .before .before .before .before .before .before .before .before .before .before .quantize-sums .ensures
 
-decoded : (c : tie.After-islow-block-i32) → (let q = c .before .before .before .before .before in
-    c .islow-block-i32 .last .1 .0 ≡ blockSamples full (q .before .before .args .quant .now) (codedSums (q .before .before .args .sums .now) (q .before .before .args .quant .now)))
-unfolding blockSamples fitted
+decoded : (c : tie.After-write-i32) → (let q = c .before .before .before .before .before in
+    c .write-i32 .last .1 .0 ≡ blockSamples full (q .before .before .args .quant .now) (codedSums (q .before .before .args .sums .now) (q .before .before .args .quant .now)))
+unfolding blockSamples
 decoded c =
     let p = c .before .before .before in
     let q = p .before .before in
-    let ps = p .products-i32 .ensures ∙ ap (fitted full (q .before .before .args .quant .now)) (q .quantize-sums .ensures) in
-    let called = c .islow-block-i32 .ensures in
-    left _ _ _ (has (ap length ps ∙ length-tab 64 _) then has {a = 64} refl then tt) (answer-status _ _ _ (called .0), called .1) ∙ ap (block eight) ps
+    c .write-i32 .ensures .1 ∙ ap (block eight) (p .products-i32 .ensures ∙ ap (fitted full (q .before .before .args .quant .now)) (q .quantize-sums .ensures))
+
+write-i32-requires : tie.Need-write-i32-requires
+unfolding fitted
+write-i32-requires c κs = (ap length (c .before .before .products-i32 .ensures) ∙ length-tab 64 _, refl)
 
 returns : tie.Need-returns
 unfolding blockTrial blockError
@@ -49,8 +49,7 @@ try-table-spec =
     (λ c. search needs)
     (λ c κs. search needs)
     (λ c. search needs)
-    (λ c. search needs)
-    (λ c κs. search needs)
+    write-i32-requires
     (λ c κs. search needs)
     (λ c κs. search needs)
     returns)

@@ -48,4 +48,4 @@ returns c =
 
 pub put-full-spec : {M : Type 1} → statement M
 put-full-spec =
-    tie.close (tie.spec (λ c κs. search needs) (λ c. search needs) (λ c. search needs) write-i32-requires (λ c. search needs) put-block-requires (λ c κs. search needs) (λ c. search needs) returns)
+    tie.close (tie.spec (λ c κs. search needs) (λ c. search needs) write-i32-requires (λ c. search needs) put-block-requires (λ c κs. search needs) (λ c. search needs) returns)
