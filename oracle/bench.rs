@@ -12,9 +12,6 @@
 //! for a tool that counts instructions; `kinds`: the names of the kinds.
 
 #[allow(dead_code)]
-#[path = "../bindings/jpeg_block.rs"]
-mod jpeg_block;
-#[allow(dead_code)]
 mod numbers;
 #[allow(dead_code)]
 mod planes;

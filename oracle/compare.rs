@@ -21,9 +21,6 @@ mod forward;
 #[allow(dead_code)]
 mod guarded;
 #[allow(dead_code)]
-#[path = "../bindings/jpeg_block.rs"]
-mod jpeg_block;
-#[allow(dead_code)]
 mod numbers;
 mod percents;
 #[allow(dead_code)]

@@ -1,9 +1,9 @@
 //! Codes a block of samples, screens and dequantizes its coefficients, and
 //! decodes them again, also brighter than 8 bits hold; then codes a plane.
 
-mod jpeg_block;
+use jpeg_block::Refusal;
 
-fn run() -> Result<(), u32> {
+fn main() -> Result<(), Refusal> {
     let block: [u8; 64] = std::array::from_fn(|n| (64 + 9 * (n % 8) + 5 * (n / 8)) as u8);
     let quant = [16; 64];
     let mut coefficients = [0; 64];
@@ -29,8 +29,8 @@ fn run() -> Result<(), u32> {
         .unwrap_or(0);
     println!("largest difference of a sample: {largest}");
 
-    if let Err(number) = jpeg_block::islow_block_i32(&products, &mut decoded[..63]) {
-        println!("an output of 63 places: refused {number}");
+    if let Err(refusal) = jpeg_block::islow_block_i32(&products, &mut decoded[..63]) {
+        println!("an output of 63 places: refused {}", refusal.number());
     }
 
     products[0] += 800;
@@ -52,8 +52,4 @@ fn run() -> Result<(), u32> {
     }
     println!();
     Ok(())
-}
-
-fn main() {
-    run().expect("no call is refused");
 }
