@@ -1,5 +1,5 @@
 // The block transforms for programs in C and in Rust: `rt staticlib jpeg_block` writes target/staticlib/libjpeg_block.a, which
-// include/jpeg_block.h and bindings/jpeg_block.rs declare.
+// include/jpeg_block.h and bindings/rust/src/lib.rs declare.
 //
 // Each function hands its buffers on to the entry of the same name and answers that entry's number: 0, or a refusal's (document 01,
 // "Refusing calls"), and then every buffer is as it was. A slice is a pointer and a length to C.
