@@ -139,7 +139,7 @@ pub fn islow_block_i32(input: &[i32], output: &mut [u8]) -> Clamped
         return refused(1); // not of 64 numbers
     }
     if output.len() != 64 {
-        return refused(3);
+        return refused(3); // not of 64 samples
     }
     let numbers = copied(input);
     clamped(write_i32(&numbers, output))
