@@ -4,6 +4,8 @@
 //! 12-bit forward entry; its 8-bit one stands there, on the block with 1920 less
 //! in each sample, and in a second line our own. A plane's time is that of one
 //! block, beside the Rust's in a loop, and beside our own block entry's.
+//! Where libjpeg-turbo is linked (cfg `turbo`), lines `NAME/turbo_sse2` and
+//! `NAME/turbo_avx2` have its functions in the Rust's place (turbo.rs).
 //!
 //! No arguments: a line for each function and kind of block, `NAME KIND RUST_NS
 //! OURS_NS RATIO`, the medians over the rounds; with the beginning of a name,
@@ -15,6 +17,8 @@
 mod numbers;
 #[allow(dead_code)]
 mod planes;
+#[cfg(turbo)]
+mod turbo;
 
 use j2k_codec_math::jpeg::{fdct, idct};
 use j2k_encoder::{Divisors, Quantized};
@@ -539,6 +543,8 @@ fn main() {
         islow_block_12bit_4x4 rust_islow_block_12bit_4x4 i16 => [u16; 16];
         islow_block_12bit_2x2 rust_islow_block_12bit_2x2 i16 => [u16; 4];
     }
+    #[cfg(turbo)]
+    turbo::run(&mut mode);
     for (kind, blocks) in samples() {
         let mut random = Random(SEED);
         let whole: Vec<_> = blocks.iter().map(|b| (*b, table(&mut random))).collect();
