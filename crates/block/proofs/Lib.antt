@@ -2,6 +2,7 @@ pub mod Unread
 pub mod Column
 pub mod Row
 pub mod Exact
+pub mod Fit
 pub mod Load
 pub mod Store
 pub mod Rows

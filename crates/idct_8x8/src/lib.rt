@@ -10,12 +10,11 @@
 // was; or 0, and the output holds the samples, with how many of them the clamp raised to 0 and how many it lowered to 255 (document 02,
 // card 4).
 mod column_pass;
-mod fit_16;
 mod row_pass;
 
 ghost use mathlib.Core.Path.{_≡_};
 ghost use Prim.Native.Nat.{ℕ, _≤_, _<_};
-ghost use lib.ListN.{length};
+ghost use lib.ListN.{length, take};
 ghost use mir.Syntax.{w32};
 ghost use Rattle.integers.specs.Fits16.{Fits16};
 ghost use Rattle.lists.specs.Every.{Every};
@@ -25,15 +24,17 @@ ghost use Rattle.block.specs.Block.{columnOf, columns, block, firstRows, invers
 ghost use Rattle.clamping.specs.Counts.{counted, tallyOne};
 ghost use Rattle.block.specs.Clamped.{unclamped, blockRaised, blockLowered, clampedAnswer};
 ghost use Rattle.refusals.specs.Refusals.{written};
-use crate::column_pass::columns_as_i16;
 use crate::column_pass::columns_i32;
 use crate::column_pass::columns_top_half_as_i16;
+use crate::column_pass::columns_top_half_i32;
 use crate::column_pass::islow_columns_top_half;
-use crate::fit_16::all_fit;
+use crate::column_pass::shortcut_columns;
 use crate::row_pass::rows;
+use crate::row_pass::to_i16;
 use block::Clamped;
 use block_access::clamped;
 use block_access::coefficient;
+use block_access::fit_16::all_fit;
 use block_access::level::all_zero_i16;
 use block_access::level::all_zero_i32;
 use block_access::level::put_level;
@@ -95,10 +96,25 @@ pub fn islow_block_top_half(input: &[i16], output: &mut [u8]) -> Clamped
     clamped(rows(&w, output))
 }
 
-// The samples of the 8×8 block of 32-bit numbers, for the entry, a plane and a search; the answer has both counts in one number (`tallyOne`).
-// So they are handed on in a register: a struct goes through memory, where two counts written one by one are slow to read as one. The
-// numbers come in an array: of what is behind a slice that more than one caller lends the compiler does not know that it overlaps no column,
-// and does not work on several columns at once.
+// The numbers of a block that fit 16 bits, cut to these.
+fn narrow(numbers: &[i32]) -> [i16; 64]
+    requires { ⌜ length (now numbers) ≡ 64 ⌝ }
+    requires { ⌜ Every Fits16 (take 64 (now numbers)) ⌝ }
+    ensures { λ r. ⌜ r ≡ now (numbers .entry) ⌝ }
+{
+    let mut r = [0i16; 64];
+    let mut i = 0;
+    while i < 64 {
+        r[i] = to_i16(numbers[i]);
+        i += 1;
+    }
+    r
+}
+
+// The samples of the 8×8 block of 32-bit numbers, for a plane and a search; the answer has both counts in one number (`tallyOne`). So they
+// are handed on in a register: a struct goes through memory, where two counts written one by one are slow to read as one. For the same reason
+// the numbers come in an array, not in a slice, which is a struct. Those that do not fit 16 bits have each column by itself here; the entry
+// works on several columns at once, as it alone knows that the input overlaps none of them.
 pub fn write_i32(numbers: &[i32; 64], output: &mut [u8]) -> u32
     requires { ⌜ (length (now numbers) ≡ 64) × (length (now output) ≡ 64) ⌝ }
     ensures { λ r. ⌜ r ≡ counted tallyOne (unclamped eight (now (numbers .entry))) ⌝ }
@@ -109,25 +125,13 @@ pub fn write_i32(numbers: &[i32; 64], output: &mut [u8]) -> u32
         return put_level(output, numbers[0]);
     }
     if all_fit(numbers, 64) {
-        let mut w = [[0i32; 8]; 8];
-        columns_as_i16(numbers, &mut w);
+        let cut = narrow(numbers);
+        let w = islow_columns(&cut, PASS1_SHIFT);
         return rows(&w, output);
     }
-    let w = columns_i32(numbers, 8);
+    let mut w = [[0i32; 8]; 8];
+    shortcut_columns(numbers, 8, &mut w);
     rows(&w, output)
-}
-
-fn copied(input: &[i32]) -> [i32; 64]
-    requires { ⌜ length (now input) ≡ 64 ⌝ }
-    ensures { λ r. ⌜ r ≡ now (input .entry) ⌝ }
-{
-    let mut block = [0i32; 64];
-    let mut i = 0;
-    while i < 64 {
-        block[i] = input[i];
-        i += 1;
-    }
-    block
 }
 
 // The 8×8 block of 32-bit numbers.
@@ -141,8 +145,17 @@ pub fn islow_block_i32(input: &[i32], output: &mut [u8]) -> Clamped
     if output.len() != 64 {
         return refused(3); // not of 64 samples
     }
-    let numbers = copied(input);
-    clamped(write_i32(&numbers, output))
+    if all_zero_i32(&input[1..64]) {
+        return clamped(put_level(output, input[0]));
+    }
+    if all_fit(input, 64) {
+        let cut = narrow(input);
+        let w = islow_columns(&cut, PASS1_SHIFT);
+        return clamped(rows(&w, output));
+    }
+    let mut w = [[0i32; 8]; 8];
+    columns_i32(input, &mut w);
+    clamped(rows(&w, output))
 }
 
 // The block whose rows 4..7 are zero, or count as zero: they are not read.
@@ -151,10 +164,10 @@ pub fn islow_block_top_half_i32(input: &[i32], output: &mut [u8]) -> Clamped
     ensures { λ r. ⌜ now (output .exit) ≡ written (r .status) (block eight (firstRows 4 (now (input .entry)))) (now (output .entry)) ⌝ }
 {
     if input.len() != 64 {
-        return refused(1);
+        return refused(1); // 32 numbers are read, but all 64 must be there
     }
     if output.len() != 64 {
-        return refused(3);
+        return refused(3); // 64 samples are written, of 32 numbers
     }
     if all_zero_i32(&input[1..32]) {
         return clamped(put_level(output, input[0]));
@@ -163,6 +176,7 @@ pub fn islow_block_top_half_i32(input: &[i32], output: &mut [u8]) -> Clamped
         let w = columns_top_half_as_i16(input);
         return clamped(rows(&w, output));
     }
-    let w = columns_i32(input, 4);
+    let mut w = [[0i32; 8]; 8];
+    columns_top_half_i32(input, &mut w);
     clamped(rows(&w, output))
 }

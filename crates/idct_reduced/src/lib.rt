@@ -3,9 +3,9 @@
 //
 // Columns first, then rows, as at 8×8, with the 4- and 2-point transforms; these scale by 2 and 4 more than the 8-point one, and so the
 // shifts are 1 and 2 more. Arithmetic wraps modulo 2^32, as document 01 has it; of 16-bit numbers a column's zero shortcut is the full
-// pass (`column-four`, `column-two` of block/proofs/Column.antt). Entries that a size ignores are not loaded (`load_column_4`,
-// `load_column_2`), and play no part (`four-reads`, `two-reads` of block/proofs/Unread.antt). A 4×4 block of which DC alone is not zero is
-// cut short (`block_access::level`).
+// pass (`column-four`, `column-two` of block/proofs/Column.antt). Rows that a size ignores are not loaded (`load_column_4`,
+// `load_column_2`), and neither they nor its columns play a part (`four-reads`, `two-reads` of block/proofs/Unread.antt). A block of which
+// DC alone is not zero is cut short (`block_access::level`).
 //
 // Each entry answers its refusal number, 1 for an input not of 64 places, then 3 for an output of the wrong length, and then leaves the
 // output as it was; or 0, and the output holds the samples, with how many of them the clamp raised to 0 and how many it lowered to 255
@@ -53,7 +53,7 @@ pub fn write_4x4(input: &[i16], output: &mut [u8]) -> u32
     ensures { λ r. ⌜ r ≡ counted tallyOne (unclamped four (now (input .entry))) ⌝ }
     ensures { λ _. ⌜ now (output .exit) ≡ block four (now (input .entry)) ⌝ }
 {
-    if all_zero_i16(&input[1..64]) {
+    if all_zero_i16(&input[1..64]) { // 4×4
         return put_level(output, coefficient(input, 0, 0));
     }
     let w = crate::four::columns_4(input);
@@ -94,6 +94,13 @@ pub fn islow_block_2x2(input: &[i16], output: &mut [u8]) -> Clamped
     }
     if output.len() != 4 {
         return refused(3);
+    }
+    // A block that has AC has nearly always one of these. The test stands here and not in `write_2x2`, where numbers that it loads one by one
+    // would keep the columns from being loaded eight at once.
+    if (input[1] | input[8]) == 0 {
+        if all_zero_i16(&input[1..64]) { // 2×2
+            return clamped(put_level(output, coefficient(input, 0, 0)));
+        }
     }
     clamped(write_2x2(input, output))
 }

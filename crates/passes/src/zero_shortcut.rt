@@ -19,7 +19,7 @@ pub const DC_SHIFT: u32 = (PASS1_BITS + 3) as u32;
 pub const DC_GAIN: i32 = 1 << PASS1_BITS;
 
 // Whether entries 1..7 are zero. One test of their bits together: no branch for each.
-fn ac_is_zero(p: [i32; 8]) -> bool
+pub fn ac_is_zero(p: [i32; 8]) -> bool
     ensures { λ r. ⌜ r ≡ zeroAt (eight .ac) p ⌝ }
 {
     (p[1] | (p[2] | (p[3] | (p[4] | (p[5] | (p[6] | p[7])))))) == 0

@@ -1,15 +1,17 @@
 -- `idct_8x8::islow_block_top_half_i32` meets its contract. Assumes nothing.
-use mathlib.Core.Path.{refl}
+use mathlib.Core.Path.{refl, ap, _∙_}
 use native.Mathlib.Omega.{arith}
 use borrow.Author.Needs.{needs}
 use lib.Dec.{lit≤}
+use lib.ListN.{length}
 use Rattle.integers.specs.Linear.{listed}
 use Rattle.passes.specs.Passes.{eight}
 use Rattle.block.specs.Block.{firstRows}
 use Rattle.refusals.proofs.Refusals.{has, lacks, _then_}
 use Rattle.block.proofs.Level.{rows-alone, top-half-dc, dc-read, level-answered}
 use Rattle.block.proofs.Counts.{refused-counts, columns-answered}
-use Rattle.idct_8x8.proofs.Fit.{first-fit}
+use Rattle.block.proofs.Fit.{first-fit}
+use Rattle.block.proofs.Rows.{length-columns}
 use Rattle.idct_8x8.proofs.islow_block_top_half_i32.Statement.{statement}
 use Rattle.idct_8x8.proofs.islow_block_top_half_i32.Tie as tie
 
@@ -40,14 +42,20 @@ returns-16 c =
     let xs = tested .before .before .before .args .input .now in
     columns-answered eight (firstRows 4 xs) _ _ (lit≤ tt) (has (tested .before .if1 .left) then has (tested .if2 .left) then tt) (c .clamped2 .ensures) (made .columns-top-half-as-i16 .ensures) (stored .rows .ensures)
 
+rows-requires-2 : tie.Need-rows-requires-2
+rows-requires-2 c κs =
+    let made = c .before .before in
+    let tested = made .before .before .before .before .before .before .before in
+    (ap length (made .columns-top-half-i32 .ensures) ∙ length-columns _ _, tested .if2 .left)
+
 returns-any : tie.Need-returns-5
 unfolding eight
 returns-any c =
     let stored = c .before .before .before in
     let made = stored .before .before .before in
-    let tested = made .before .before .before .before .before .before in
+    let tested = made .before .before .before .before .before .before .before in
     let xs = tested .before .before .before .args .input .now in
-    columns-answered eight (firstRows 4 xs) _ _ (lit≤ tt) (has (tested .before .if1 .left) then has (tested .if2 .left) then tt) (c .clamped3 .ensures) (made .columns-i32 .ensures) (stored .rows2 .ensures)
+    columns-answered eight (firstRows 4 xs) _ _ (lit≤ tt) (has (tested .before .if1 .left) then has (tested .if2 .left) then tt) (c .clamped3 .ensures) (made .columns-top-half-i32 .ensures) (stored .rows2 .ensures)
 
 pub islow-block-top-half-i32-spec : {M : Type 1} → statement M
 islow-block-top-half-i32-spec =
@@ -72,8 +80,8 @@ islow-block-top-half-i32-spec =
     (λ c κs. search needs)
     (λ c. search needs)
     returns-16
-    (λ c κs. search needs)
-    (λ c κs. search needs)
+    (λ c κs. (c .before .before .before .before .before .before .before .if1 .left, refl))
+    rows-requires-2
     (λ c κs. search needs)
     (λ c. search needs)
     returns-any)

@@ -1,25 +1,14 @@
 -- `idct_8x8::column_pass::columns_i32` meets its contract. Assumes nothing.
-use Prim.Native.Nat.{_-_}
-use mathlib.Core.Path.{refl, ap, _∙_}
-use native.Mathlib.Omega.{arith}
+use mathlib.Core.Path.{sym, subst, _∙_}
 use borrow.Author.Needs.{needs}
-use Rattle.lists.proofs.Tab.{Filled, none, next, filled}
-use Rattle.passes.specs.Passes.{eight, columnPass}
-use Rattle.block.specs.Block.{columnOf, columns, firstRows}
+use lib.Dec.{T, lit≤}
 use Rattle.idct_8x8.proofs.column_pass.columns_i32.Statement.{statement}
 use Rattle.idct_8x8.proofs.column_pass.columns_i32.Tie as tie
 
-abbrev Inv-loop : tie.InvT-loop
-Inv-loop input rows w₀ u₀ w u = Filled (λ k. columnPass eight (columnOf (firstRows rows input) k)) 8 u w
-
-abbrev μ-loop : tie.MeasureT-loop
-μ-loop input rows w₀ u₀ w u = 8 - u
-
-loop-again : tie.Need-loop-again Inv-loop μ-loop
-loop-again c = next (c .before .before .before .loop .inv) (omega arith) (c .islow-column .ensures ∙ ap (columnPass eight) (c .before .load-column-i32 .ensures))
+full-columns-requires : tie.Need-full-columns-requires
+full-columns-requires c κs =
+    let yes = c .before in let test = yes .before in
+    (test .before .pre, subst T (sym (yes .if1 .taken) ∙ test .no-shortcut .ensures) tt)
 
 pub columns-i32-spec : {M : Type 1} → statement M
-unfolding columns
-columns-i32-spec =
-    tie.close
-    (tie.spec Inv-loop μ-loop (λ c. none _ 8 _ refl) (λ c κs. search needs) (λ c κs. search needs) (λ c. omega arith) (λ c. omega arith) (λ c. omega arith) (λ c. omega arith) loop-again (λ c. filled (c .before .loop .inv) (omega arith)))
+columns-i32-spec = tie.close (tie.spec (λ c κs. search needs) full-columns-requires (λ c κs. (c .before .before .before .pre, lit≤ tt)) (λ c. search needs) (λ c. search needs))

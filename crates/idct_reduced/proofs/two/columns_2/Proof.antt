@@ -1,21 +1,31 @@
 -- `idct_reduced::two::columns_2` meets its contract. Assumes nothing.
+use Prim.Native.Nat.{_-_}
+use mathlib.Core.Path.{refl}
+use native.Mathlib.Omega.{arith}
 use borrow.Author.Needs.{needs}
-use lib.ListN.{replicate}
-use lib.IntN.{pos}
+use Rattle.lists.proofs.Tab.{Filled, none, next, filled}
+use Rattle.gains.specs.Gains.{skipped2}
 use Rattle.passes.specs.Passes.{two, columnPass}
-use Rattle.block.proofs.Unread.{two-column, two-columns}
+use Rattle.block.specs.Block.{columnOf, columns}
+use Rattle.block.proofs.Column.{column-two}
+use Rattle.block.proofs.Steps.{column-read}
+use Rattle.block.proofs.Unread.{two-column}
 use Rattle.idct_reduced.proofs.two.columns_2.Statement.{statement}
 use Rattle.idct_reduced.proofs.two.columns_2.Tie as tie
 
-returns : tie.Need-returns
-returns c =
-    let s5 = c .before .before in let s3 = s5 .before .before in let s1 = s3 .before .before in let s0 = s1 .before .before in
-    two-columns (columnPass two) two-column _ (replicate 2 (pos 0))
-    (s0 .before .load-column-2 .ensures .0, s0 .column-2 .ensures) (s1 .before .load-column-22 .ensures .0, s1 .column-22 .ensures) (s3 .before .load-column-23 .ensures .0, s3 .column-23 .ensures)
-    (s5 .before .load-column-24 .ensures .0, s5 .column-24 .ensures) (c .before .load-column-25 .ensures .0, c .column-25 .ensures)
+abbrev Inv-loop : tie.InvT-loop
+Inv-loop input w₀ u₀ w u = Filled (λ k. columnPass two (columnOf input k)) 8 u w
+
+abbrev μ-loop : tie.MeasureT-loop
+μ-loop input w₀ u₀ w u = 8 - u
+
+loop-again : tie.Need-loop-again Inv-loop μ-loop
+unfolding two
+loop-again c = next (c .before .before .before .loop .inv) (omega arith) (column-read two skipped2 column-two two-column _ _ (c .before .load-column-2 .ensures) (c .pass-2 .ensures))
 
 pub columns-2-spec : {M : Type 1} → statement M
+unfolding columns
 columns-2-spec =
     tie.close
-    (tie.spec (λ c κs. search needs) (λ c κs. search needs) (λ c κs. search needs) (λ c κs. search needs) (λ c κs. search needs) (λ c κs. search needs) (λ c κs. search needs) (λ c κs. search needs) (λ c κs. search needs)
-    (λ c κs. search needs) returns)
+    (tie.spec Inv-loop μ-loop (λ c. none _ 8 _ refl) (λ c κs. search needs) (λ c. omega arith) (λ c κs. search needs) (λ c. omega arith) (λ c. omega arith) (λ c. omega arith) (λ c. omega arith) loop-again
+    (λ c. filled (c .before .loop .inv) (omega arith)))

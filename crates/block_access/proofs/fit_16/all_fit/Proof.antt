@@ -1,4 +1,4 @@
--- `idct_8x8::fit_16::all_fit` meets its contract. Assumes nothing.
+-- `block_access::fit_16::all_fit` meets its contract. Assumes nothing.
 use Prim.Native.Nat.{_≤_, _-_}
 use mathlib.Core.Path.{_≡_, refl, ap, _∙_}
 use native.Mathlib.Omega.{arith}
@@ -10,8 +10,8 @@ use mir.ValLaws.{toZ-ofZ}
 use Rattle.integers.specs.Fits16.{fits16}
 use Rattle.lists.specs.Every.{every}
 use Rattle.lists.proofs.Every.{every-next}
-use Rattle.idct_8x8.proofs.fit_16.all_fit.Statement.{statement}
-use Rattle.idct_8x8.proofs.fit_16.all_fit.Tie as tie
+use Rattle.block_access.proofs.fit_16.all_fit.Statement.{statement}
+use Rattle.block_access.proofs.fit_16.all_fit.Tie as tie
 
 abbrev Inv-loop : tie.InvT-loop
 Inv-loop values n all₀ i₀ all i = (i ≤ n) × (all ≡ every fits16 (take i values))
