@@ -3,8 +3,8 @@
  * A block is 64 numbers in natural order: index 8v + u for frequencies, 8y + x for samples (u and x across). A quantizer table is 64
  * quantizers in the same order; a quantizer 0 counts as 1, but for the guarded quantizer, which refuses it.
  *
- * Each buffer is a pointer and its length, the number of elements and not of bytes. Each function returns 0, and has then written the
- * whole of its output; or a refusal's number, and has then written nothing:
+ * Each buffer is a pointer and its length, the number of elements and not of bytes. Each function returns 0, and has then written
+ * its output, all of it unless said otherwise; or a refusal's number, and has then written nothing:
  *
  *   1  an input block, or AC places of a record, not of 64; coefficients of a plane that are not 64 for each block
  *   2  a quantizer table, or divisors, not of 64

@@ -3,8 +3,9 @@
 //! searches.rs, queues.rs, twelve_bit.rs and strips.rs, on many inputs; the
 //! counts of the 8-bit inverses with clamped.rs.
 //!
-//! Arguments: the seconds to spend, and the seed. Each function is first called
-//! with lengths around every one that it takes. Then all are asked for a list of
+//! Arguments: the seconds to spend, the seed, and how the names of the functions
+//! begin, unless all are compared. Each function is first called with lengths
+//! around every one that it takes. Then all are asked for a list of
 //! boundary and random inputs each, then for lists from the next seed, until the
 //! time is over. An output lies between guard places; those, and what a refused
 //! call was lent, must stay as they were.
@@ -1977,6 +1978,11 @@ fn main() {
     compare.queues();
     compare.twelve_bit();
     compare.joins();
+    if let Some(name) = std::env::args().nth(3) {
+        compare
+            .functions
+            .retain(|function| function.tally.name.starts_with(&name));
+    }
     for list in 0.. {
         for function in &mut compare.functions {
             (function.try_list)(seed.wrapping_add(list), &mut function.tally);

@@ -1,6 +1,6 @@
 -- Document 01, leaf 4 and "Refusing calls", and document 02, card 8: what the canonical forward entries answer and write. "The sample
 -- limit, the width and the centre are parameters of one set of facts": 8 bits have the limit 255 and the centre 128, 12 bits 4095 and
--- 2048. The numbers here are of no width; `coefficient-size` of proofs/Samples.antt says what width the coefficients need.
+-- 2048. The numbers here are of no width; `coefficients-fit` of proofs/Samples.antt says what width the coefficients need.
 use mathlib.Core.Bool.{Bool}
 use mathlib.Core.Path.{_≡_}
 use mathlib.Core.List.{List, [], _∷_, _++_, map}

@@ -1,7 +1,7 @@
 -- A test at every number below a bound, and the fact at each; facts at the eight numbers below 8.
 -- Assumes nothing.
 use mathlib.Core.Path.{_≡_, refl, sym, ap, subst, _∙_}
-use mathlib.Core.Bool.{Bool, true, _&&_}
+use mathlib.Core.Bool.{Bool, true, false, _&&_}
 use Prim.Native.Nat.{ℕ, zero, suc, _+_, _<_}
 use native.Mathlib.Numerals.{add-one}
 use native.Mathlib.Decide.{decLt}
@@ -18,6 +18,14 @@ below-at (suc n) f t k h = go (and-yes (f n) (below n f) t) (λ r l. below-at n 
     go : T (f n) × T (below n f) → (T (below n f) → k < n → T (f k)) → Dec (k < n) → T (f k)
     go both rest (yes l) = rest (both .1) l
     go both rest (no l) = let e : n ≡ k = omega arith in subst (λ (j : ℕ). T (f j)) e (both .0)
+
+-- as equations
+pub holds-at : (n : ℕ) (f : ℕ → Bool) → below n f ≡ true → (k : ℕ) → k < n → f k ≡ true
+holds-at n f e k h = is-true (f k) (below-at n f (subst T (sym e) tt) k h)
+  where
+    is-true : (b : Bool) → T b → b ≡ true
+    is-true true t = refl
+    is-true false t = absurd t
 
 -- and back
 pub at-below : (n : ℕ) (f : ℕ → Bool) → ((k : ℕ) → k < n → T (f k)) → T (below n f)

@@ -1,7 +1,7 @@
 -- A row of coefficients that one sum each settles.
 -- Assumes nothing.
-use mathlib.Core.Path.{_≡_, refl, sym, ap, subst, _∙_}
-use mathlib.Core.Bool.{Bool, true, false, cond}
+use mathlib.Core.Path.{_≡_, sym, ap, subst, _∙_}
+use mathlib.Core.Bool.{true, cond}
 use mathlib.Core.List.{List}
 use Prim.Native.Nat.{ℕ, _+_, _*_, _/_, _<_}
 use lib.Dec.{T}
@@ -11,21 +11,13 @@ use lib.Ieee.{Float, nan, binary64, fits, mul}
 use lib.Ieee.Fits.{mul-fits}
 use Rattle.lists.specs.Tab.{tab}
 use Rattle.lists.specs.Below.{below}
-use Rattle.lists.proofs.Below.{below-at}
+use Rattle.lists.proofs.Below.{holds-at}
 use Rattle.lists.proofs.Tab.{getD-tab, tab-ext}
 use Rattle.forward.specs.Forward.{scaledSum}
 use Rattle.quantize.specs.Quantize.{coefficient}
 use Rattle.guarded_quantizer.specs.Binary64.{roundedToI16}
 use Rattle.guarded_quantizer.proofs.FixedPoint.{settled-point}
 use Rattle.transform.specs.Settled.{inRange, point, settledPoint, byValue}
-
-is-true : (b : Bool) → T b → b ≡ true
-is-true true t = refl
-is-true false t = absurd t
-
--- a test that holds at every place holds at one
-pub holds-at : (n : ℕ) (f : ℕ → Bool) → below n f ≡ true → (k : ℕ) → k < n → f k ≡ true
-holds-at n f e k h = is-true (f k) (below-at n f (subst T (sym e) tt) k h)
 
 -- the parts above the rests are the coefficients
 pub settled-row : (block quant : List ℕ) (v : ℕ) (scaled : List Float) {points : List ℕ} {row : List ℤ} → ((u : ℕ) → u < 8 → T (fits binary64 (getD scaled u nan))) →

@@ -8,10 +8,10 @@ use lib.Dec.{T}
 use lib.ListN.{getD}
 use lib.Ieee.{Float, nan, binary64, fits}
 use Rattle.lists.specs.Below.{below}
+use Rattle.lists.proofs.Below.{holds-at}
 use Rattle.lists.proofs.Tab.{Filled, none, next, filled}
 use Rattle.guarded_quantizer.proofs.FixedPoint.{rounding-number, whole-part-most}
 use Rattle.transform.specs.Settled.{inRange, point}
-use Rattle.transform.proofs.Rows.{holds-at}
 use Rattle.transform.proofs.guarded.points_of.Statement.{statement}
 use Rattle.transform.proofs.guarded.points_of.Tie as tie
 
