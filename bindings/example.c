@@ -83,6 +83,7 @@ static void records(void)
     uint8_t other[64], divisors[2][64], yes[1];
     int16_t dc[2][1], ac[2][64];
     uint64_t nonzero_ac[1];
+    double reciprocals[64];
 
     memcpy(other, quant, sizeof other);
     other[63] = 17;
@@ -92,6 +93,10 @@ static void records(void)
     printf("a record and itself are the same: %s\n", word(yes[0] == 1));
     done(jpeg_block_same_records(dc[0][0], ac[0], 64, divisors[0], 64, dc[1][0], ac[1], 64, divisors[1], 64, yes, 1));
     printf("with another divisor: %s\n", word(yes[0] == 1));
+    done(jpeg_block_quantization_divisors(quant, 64, reciprocals, 64)); /* once for many blocks */
+    done(jpeg_block_fdct_quantize_guarded(block, 64, quant, 64, reciprocals, 64, dc[1], 1, ac[1], 64, nonzero_ac, 1, divisors[1], 64));
+    done(jpeg_block_same_records(dc[0][0], ac[0], 64, divisors[0], 64, dc[1][0], ac[1], 64, divisors[1], 64, yes, 1));
+    printf("with divisors made beforehand: %s\n", word(yes[0] == 1));
 }
 
 static void twelve_bits(void)
@@ -154,11 +159,13 @@ static void whole_plane(void)
 static void queue(void)
 {
     static uint8_t list[4096];
-    uint32_t state[10], answer[2], n;
+    uint32_t state[10], answer[2], waiting[8], n;
 
     done(jpeg_block_bench_queue_new(3, state, 10));
     done(jpeg_block_bench_queue_deposit(state, 10, 0, 2));
     done(jpeg_block_bench_queue_deposit(state, 10, 2, 1));
+    done(jpeg_block_bench_queue_report(state, 10, waiting, 8));
+    printf("blocks that wait: %u %u %u\n", (unsigned)waiting[0], (unsigned)waiting[1], (unsigned)waiting[2]);
     done(jpeg_block_bench_queue_turn(state, 10, 4096, list, 4096, answer, 2));
     printf("benches served:");
     for (n = 0; n < answer[0]; n++) {

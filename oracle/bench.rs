@@ -218,6 +218,17 @@ rust! {
         }
         *output = best.map_or((0, 0), |(percent, count)| (percent, count - last));
     }
+    rust_bench_queue_new(input: &u32, output: &mut [u32; 10]) {
+        *output = [*input, *input - 1, 0, 0, 0, 0, 0, 0, 0, 0];
+    }
+    rust_bench_queue_deposit(input: &([u32; 10], u32, u32), output: &mut [u32; 10]) {
+        let (state, bench, blocks) = input;
+        *output = *state;
+        output[2 + *bench as usize] += blocks;
+    }
+    rust_bench_queue_report(input: &[u32; 10], output: &mut [u32; 8]) {
+        output.copy_from_slice(&input[2..]);
+    }
     rust_bench_queue_turn(input: &[u32; 10], output: &mut [u8; 4096]) {
         let (benches, mut last, mut waiting) = (input[0], input[1], *input);
         for place in output {
@@ -844,16 +855,50 @@ fn main() {
         );
     }
     // Eight benches with many blocks each.
+    let states: Vec<[u32; 10]> = many(|r| {
+        core::array::from_fn(|i| match i {
+            0 => 8,
+            1 => r.below(8) as u32,
+            _ => 1000 + r.below(60_000) as u32,
+        })
+    });
+    mode.run(
+        "bench_queue_new",
+        "benches",
+        &many(|r| 1 + r.below(8) as u32),
+        [0; 10],
+        rust_bench_queue_new,
+        |benches, output| *output = BenchQueue::new(*benches).expect("no refusal").0,
+    );
+    let deposits: Vec<_> = (0..)
+        .zip(&states)
+        .map(|(n, state)| (*state, n % 8, 4_000 + n))
+        .collect();
+    mode.run(
+        "bench_queue_deposit",
+        "benches",
+        &deposits,
+        [0; 10],
+        rust_bench_queue_deposit,
+        |(state, bench, blocks), output| {
+            *output = BenchQueue(*state)
+                .deposit(*bench, *blocks)
+                .expect("no refusal")
+                .0;
+        },
+    );
+    mode.run(
+        "bench_queue_report",
+        "benches",
+        &states,
+        [0; 8],
+        rust_bench_queue_report,
+        |state, output| *output = BenchQueue(*state).report().expect("no refusal"),
+    );
     mode.run(
         "bench_queue_turn",
         "4096",
-        &many(|r| {
-            core::array::from_fn(|i| match i {
-                0 => 8,
-                1 => r.below(8) as u32,
-                _ => 1000 + r.below(60_000) as u32,
-            })
-        }),
+        &states,
         [0; 4096],
         rust_bench_queue_turn,
         |state: &[u32; 10], output| {

@@ -62,6 +62,11 @@ fn records(block: &[u8; 64], quant: &[u8; 64]) -> Result<(), Refusal> {
     println!("a record and itself are the same: {}", word(yes));
     let yes = jpeg_block::same_records(&record, &other);
     println!("with another divisor: {}", word(yes));
+    // Once for many blocks.
+    let divisors = jpeg_block::quantization_divisors(quant)?;
+    let guarded = jpeg_block::fdct_quantize_guarded(block, quant, &divisors)?;
+    let yes = jpeg_block::same_records(&record, &guarded);
+    println!("with divisors made beforehand: {}", word(yes));
     Ok(())
 }
 
@@ -146,6 +151,8 @@ fn whole_plane(quant: &[u8; 64]) -> Result<(), Refusal> {
 /// Two blocks at bench 0, one at bench 2, and a turn for as many as there are.
 fn queue() -> Result<(), Refusal> {
     let queue = BenchQueue::new(3)?.deposit(0, 2)?.deposit(2, 1)?;
+    let [first, second, third, ..] = queue.report()?;
+    println!("blocks that wait: {first} {second} {third}");
     let mut list = [0; 4096];
     let turned = queue.turn(4096, &mut list)?;
     print!("benches served:");
