@@ -3,6 +3,9 @@
 // With K_u(x) = C(u)/2 · cos((2x+1)uπ/16) the entry for frequency n = 8v + u at row y and column x, both below 4, is
 // K_u(x)·K_v(y)·2^32, rounded to the nearest integer; K_u(7 - x) = (-1)^u K_u(x) gives the rest. The square roots behind the
 // cosines live in the logic alone.
+
+#![tactic(auto)]
+
 ghost use Rattle.std.specs.Prelude.{◌≡◌, ◌+◌, ◌*◌, ◌<◌, get_or, pos};
 ghost use Rattle.lists.specs.Tab.{tab};
 ghost use Rattle.basis.specs.Basis.{basis_table};

@@ -3,11 +3,14 @@
 //
 // Each call is a method by value, self in and a new state out. None has a `requires`: a state that is handed in may hold anything, and is
 // tested first. The counts are of 32 bits, so that one above 65535 can be told.
+
+#![tactic(auto)]
+
 ghost use Rattle.std.specs.Prelude.{◌≡◌, true, ◌≤◌, ◌<◌, length};
 ghost use Rattle.bench_queue.specs.State.{waiting_at, most_waiting, counts_fit, in_range, served};
 ghost use Rattle.bench_queue.specs.Calls.{zero_record, new_answer, deposit_answer, following, next_bench, coded_benches, after_blocks, overwritten, word_of, block_limit, turn_answer, turn_output, report_answer};
 
-#[derive(Drop)]
+#[derive(Clone, Copy)]
 pub struct BenchQueue {
     pub benches: u32,
     // The bench last served.
@@ -17,21 +20,21 @@ pub struct BenchQueue {
 }
 
 // What a new state and a deposit answer: 0 or a refusal's number, and the state.
-#[derive(Drop)]
+#[derive(Clone, Copy)]
 pub struct Updated {
     pub status: u32,
     pub state: BenchQueue,
 }
 
 // What an accepted turn says; a refused one says neither word.
-#[derive(Drop)]
+#[derive(Clone, Copy)]
 pub enum Word {
     Spent,
     Idle,
     Neither,
 }
 
-#[derive(Drop)]
+#[derive(Clone, Copy)]
 pub struct Turned {
     pub status: u32,
     pub state: BenchQueue,
@@ -40,14 +43,14 @@ pub struct Turned {
     pub word: Word,
 }
 
-#[derive(Drop)]
+#[derive(Clone, Copy)]
 pub struct Reported {
     pub status: u32,
     pub state: BenchQueue,
     pub waiting: [u32; 8],
 }
 
-#[derive(Drop)]
+#[derive(Clone, Copy)]
 struct Coded {
     state: BenchQueue,
     listed: u32,

@@ -1,6 +1,9 @@
 // A worked history of the bench queue (document 02, card 11): three benches, each with a table and samples of its own. Every block that a
 // turn lists is coded by the block entry on what its bench lends. Prints each call with its status, each coded block with four of its
 // coefficients, those of u and v 0 and 1. What cannot be written is left out: a program has no exit status.
+
+#![tactic(auto)]
+
 ghost use Rattle.std.specs.Prelude.{◌≤◌};
 
 use bench_queue::{BenchQueue, Word};

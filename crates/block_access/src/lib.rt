@@ -4,6 +4,9 @@
 // A block comes in natural order; what the column pass gives is held by columns. Nothing is computed here but what a block of DC alone
 // gives (`level`): a number of 16 bits is loaded as it is (`Fits16`), `sample_u8` and `sample_12bit` clamp what is stored, and `clamped`
 // takes two counts apart. A helper requires what its callers have tested; the entries refuse.
+
+#![tactic(auto)]
+
 pub mod fit_16;
 pub mod level;
 

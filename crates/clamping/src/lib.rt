@@ -1,4 +1,7 @@
 // Clamping to samples (idct.rs; document 01, leaf 1), and which rule gave a sample (document 02, card 4).
+
+#![tactic(auto)]
+
 pub mod tally;
 
 ghost use Rattle.std.specs.Prelude.{◌≡◌, cond, ◌-◌, ◌^◌, T, pos};
@@ -9,14 +12,14 @@ ghost use Rattle.clamping.specs.Rule.{rule_to, sampled_u8};
 use wrapping::wrapping_add_i32;
 
 // Raised to 0, lowered to 255, or within: then the sample is the sum itself.
-#[derive(Drop)]
+#[derive(Clone, Copy)]
 pub enum Rule {
     Raised,
     Lowered,
     Within,
 }
 
-#[derive(Drop)]
+#[derive(Clone, Copy)]
 pub struct Sample {
     pub sample: u8,
     pub rule: Rule,

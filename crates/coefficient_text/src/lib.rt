@@ -2,6 +2,9 @@
 //
 // Input of 75 bytes, the header and 64 samples, gives eight lines of eight numbers: the canonical coefficients for quantizer 1.
 // Any other input gives the line `refused 7`.
+
+#![tactic(auto)]
+
 mod decimal_lines;
 
 ghost use Rattle.std.specs.Prelude.{◌≡◌, ◌≤◌, length};
@@ -16,7 +19,7 @@ use fdct::fdct_quantize;
 pub const TEXT: usize = LINES;
 
 // What `coefficient_text` answers: 0 or a refusal's number, and how many bytes of text stand at the start of the output.
-#[derive(Drop)]
+#[derive(Clone, Copy)]
 pub struct Printed {
     pub status: u32,
     pub count: usize,

@@ -1,6 +1,9 @@
 // Reads a grey picture of 8 × 8 samples (Netpbm PGM) from standard input, and prints its canonical coefficients for quantizer 1, or
 // `refused 7` (document 01, "Added by design"). A program has no exit status: where its text cannot be written, it says why on standard
 // error.
+
+#![tactic(auto)]
+
 use coefficient_text::TEXT;
 use libc::{STDIN_FILENO, STDOUT_FILENO};
 

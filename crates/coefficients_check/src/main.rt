@@ -2,6 +2,9 @@
 // numbers of places give. A case has a line, its name, the bytes of input, the places of output, the status and the bytes of text,
 // and then the output and what lies behind it, dots where the call wrote nothing. The stdout beside src/ holds the coefficients as
 // computed apart from this code, from document 01's definition.
+
+#![tactic(auto)]
+
 ghost use Rattle.std.specs.Prelude.{◌≤◌, ◌≡◌, length};
 
 use coefficient_text::{Printed, TEXT};

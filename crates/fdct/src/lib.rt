@@ -3,6 +3,9 @@
 //
 // Samples are level-shifted by 128, those of 12 bits by 2048 (T.81 A.3.1); the transform itself, in crate `fdct_block`, serves samples of
 // up to 12 bits and quantizers of 16. The definitions of what both write, and the laws, are over the centre and the largest sample.
+
+#![tactic(auto)]
+
 pub mod block_sums;
 pub mod twelve_bit;
 

@@ -4,6 +4,9 @@
 // A block of centred samples folds into four quadrants of 16 numbers, one for each parity of (u, v), and each coefficient is a
 // 16-term sum of one quadrant against the basis, the table of crate basis. One quadrant is held at a time, and its 16 coefficients are
 // written before the next.
+
+#![tactic(auto)]
+
 pub mod block_sums;
 mod folds;
 mod parity;

@@ -3,6 +3,9 @@
 //
 // The 1-D transform of Arai, Agui and Nakajima leaves output u larger by 2√2·AAN_SCALE[u]; the divisors take the scales of both
 // directions off together with the quantizer. Each operation is rounded once, in the Rust's order.
+
+#![tactic(auto)]
+
 mod fdct_8;
 
 ghost use Rattle.core.specs.Prelude.{◌≡◌, ◌+◌, ◌*◌, ◌<◌, [], length, get_or, slice_index, slice_index_or};

@@ -5,6 +5,9 @@
 // once; under each table they are quantized and decoded (`block_trial`), and what comes of it is added to the percent's error and count
 // (`totals`). Of the 200 errors and counts the best percent is found at the end (`choice`). A plane has at most 2^24 samples, whose squared
 // errors are at most 255² each, and at most 2^24 coefficients, so no sum overflows 64 bits.
+
+#![tactic(auto)]
+
 mod block_trial;
 mod choice;
 mod totals;
@@ -18,7 +21,7 @@ use crate::totals::{add_plane, percent_tables};
 use plane::is_measured;
 
 // What the search found.
-#[derive(Drop)]
+#[derive(Clone, Copy)]
 pub enum Found {
     // None tried is good.
     NoneGood,
@@ -28,7 +31,7 @@ pub enum Found {
 
 // What the call answers: 0 or a refusal's number; what was found; how far off it is at most; and the number of trials. After a refusal
 // nothing is found, and the numbers are 0.
-#[derive(Drop)]
+#[derive(Clone, Copy)]
 pub struct Fewest {
     pub status: u32,
     pub found: Found,
@@ -37,7 +40,7 @@ pub struct Fewest {
 }
 
 // What a trial makes of one block: its squared error, and how many of its coefficients are not zero.
-#[derive(Drop)]
+#[derive(Clone, Copy)]
 struct Trial {
     error: u32,
     count: u32,

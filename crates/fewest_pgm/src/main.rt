@@ -5,6 +5,9 @@
 // The picture is held whole, so it has at most as many bytes as `ROOM`, header and all; of a larger one, or a raster that is too short, it
 // says `refused 10` on standard error, and `refused 8` of another width or height. What cannot be written is left out: a program has no
 // exit status.
+
+#![tactic(auto)]
+
 ghost use Rattle.std.specs.Prelude.{◌≤◌};
 
 use fewest::{Found, fewest_coefficients};

@@ -2,6 +2,9 @@
 //
 // A 1-D transform is a matrix of gains, in units of 2^-CONST_BITS for 8 points and of half and a quarter of that for 4 and 2.
 // The matrices are in specs/; the law by which a butterfly's steps make up a matrix is in proofs/, over the width.
+
+#![tactic(auto)]
+
 pub mod fix_i64;
 
 ghost use Rattle.std.specs.Prelude.{◌≡◌};
@@ -85,7 +88,7 @@ pub fn islow_gains() -> [[i32; 8]; 8]
     ISLOW_GAINS
 }
 
-#[derive(Drop)]
+#[derive(Clone, Copy)]
 pub struct GainBounds {
     pub max_gain: i32,
     pub max_l1: i32,

@@ -2,21 +2,23 @@
 // in f64 and the divisors (code: fdct_f64), the guard and the rounding of an f64, the record of DC, AC places, bitmap and divisors, the
 // sameness of two records, and what the entry answers (code: transform). The structs that they speak of are declared here.
 
+#![tactic(auto)]
+
 // What the guarded quantizer multiplies by instead of dividing.
-#[derive(Drop)]
+#[derive(Clone, Copy)]
 pub struct QuantizationDivisors {
     pub reciprocals: [f64; 64],
 }
 
 // What `quantization_divisors` answers: status 0 and the divisors, or a refusal's number and 64 zeros.
-#[derive(Drop)]
+#[derive(Clone, Copy)]
 pub struct MadeDivisors {
     pub status: u32,
     pub divisors: QuantizationDivisors,
 }
 
 // The record of a quantized block (transform.rs, `QuantizedBlock`, which has no divisors; those by document 02, card 9).
-#[derive(Drop)]
+#[derive(Clone, Copy)]
 pub struct QuantizedBlock {
     pub dc: i16,
     // In zigzag order; place 0 is 0.
@@ -28,7 +30,7 @@ pub struct QuantizedBlock {
 }
 
 // What `fdct_quantize` answers: status 0 and the record, or a refusal's number and zeros.
-#[derive(Drop)]
+#[derive(Clone, Copy)]
 pub struct Quantized {
     pub status: u32,
     pub block: QuantizedBlock,

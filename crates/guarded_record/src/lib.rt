@@ -2,6 +2,9 @@
 //
 // The divisors are made from the table that the block is quantized under, so the guarded coefficients are the canonical ones (crate
 // agreement), and so is all that the record says of its block: demand 3's bounds, the screen, sameness (proofs/Consequences.antt).
+
+#![tactic(auto)]
+
 ghost use Rattle.std.specs.Prelude.{◌≡◌};
 ghost use Rattle.agreement.specs.Agreement.{canonical_answer};
 

@@ -9,6 +9,9 @@
 //
 // Each entry answers its refusal number, 1 for an input not of 64 places, then 3 for an output of the wrong length, and then leaves the
 // output as it was; or 0, and the output holds the samples.
+
+#![tactic(auto)]
+
 mod eight;
 mod four;
 mod passes_12bit;

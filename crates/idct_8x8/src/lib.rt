@@ -9,6 +9,9 @@
 // Each entry answers its refusal number, 1 for an input not of 64 places, then 3 for an output not of 64, and then leaves the output as it
 // was; or 0, and the output holds the samples, with how many of them the clamp raised to 0 and how many it lowered to 255 (document 02,
 // card 4).
+
+#![tactic(auto)]
+
 mod column_pass;
 mod row_pass;
 

@@ -39,6 +39,7 @@ offset-all (suc k) a f j h t = go (dec_lt j k) (λ l. offset-all k a f j l t)
 
     left : (s t : Bool) → T s → T (s || t)
     left true t p = tt
+    left false t p = elim p [ ]
 
     go : Dec (j < k) → (j < k → T (some_of k a f)) → T (f (a +ℤ pos k) || some_of k a f)
     go (yes l) more = right (f (a +ℤ pos k)) (some_of k a f) (more l)

@@ -5,6 +5,9 @@
 // differences and products by constants appear, each wrapping modulo 2^32, so each output is a linear form of p modulo 2^32: a row of
 // gains, whatever the order of the steps (`eight-point` of gains/proofs/Butterfly.antt). A row's gains sum to at most 61214 in absolute
 // value: of 16-bit numbers the outputs stay below 2^31, and are the exact sums (`wrap-dot` of integers/proofs/Bound.antt).
+
+#![tactic(auto)]
+
 pub mod direct;
 pub mod reduced;
 

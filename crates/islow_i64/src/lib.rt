@@ -4,6 +4,9 @@
 // The steps are those of crate islow; outputs are scaled by 2^CONST_BITS. Each output is a linear form of p modulo 2^64: a row of gains,
 // whatever the order of the steps (`eight-point` of gains/proofs/Butterfly.antt). 16-bit input, and what a column pass makes of it,
 // never wraps (`exact-eight` of block/proofs/Exact.antt).
+
+#![tactic(auto)]
+
 pub mod reduced;
 
 ghost use Rattle.std.specs.Prelude.{◌≡◌};

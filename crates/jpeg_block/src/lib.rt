@@ -4,6 +4,9 @@
 // Each function hands its buffers on to the entry that it is named for and answers that entry's number: 0, or a refusal's (document 01,
 // "Refusing calls"), and then every buffer is as it was. Where C has more buffers than the entry, as for counts or a state, their lengths are
 // tested too. A slice is a pointer and a length to C.
+
+#![tactic(auto)]
+
 mod canonical;
 mod canonical_12bit;
 mod canonical_record;

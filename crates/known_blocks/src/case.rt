@@ -5,7 +5,7 @@ ghost use Rattle.std.specs.Prelude.{◌<◌, ◌≤◌};
 pub const MOST: usize = 20;
 
 // What is read of a line: how many numbers ended, and the one at hand.
-#[derive(Drop)]
+#[derive(Clone, Copy)]
 struct Scan {
     ended: usize,
     value: u64,

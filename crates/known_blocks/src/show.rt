@@ -5,7 +5,7 @@ use clamping::Rule;
 use libc::STDOUT_FILENO;
 
 // Equal numbers that follow each other. An answer starts with none, and has at least one number.
-#[derive(Drop)]
+#[derive(Clone, Copy)]
 struct Run {
     count: u64,
     value: i32,

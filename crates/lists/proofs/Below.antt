@@ -35,6 +35,7 @@ at-below (suc n) f h = both (f n) (below n f) (h n (omega arith)) (at-below n f 
   where
     both : (s t : Bool) → T s → T t → T (s && t)
     both true t p q = q
+    both false t p q = elim p [ ]
 
 -- every place holds
 pub below_holds : (n : ℕ) (f : ℕ → Bool) → ((k : ℕ) → k < n → f k ≡ true) → below n f ≡ true

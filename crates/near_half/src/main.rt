@@ -3,6 +3,9 @@
 // there were, at how many coefficients the guard was taken, and at how many the two quantizers differ.
 //
 // Standard input has 64 samples and 64 quantizers for each block.
+
+#![tactic(auto)]
+
 ghost use Rattle.std.specs.Prelude.{◌≡◌, ◌≤◌, ◌<◌, length};
 
 use fdct::fdct_quantize;

@@ -4,6 +4,9 @@
 // The transform scales by 2^CONST_BITS. The column pass scales down but for PASS1_BITS fraction bits; the row pass takes these and the 1/8
 // normalisation off. Arithmetic wraps modulo 2^32, as document 01 has it; for 16-bit input the column pass does not
 // (`column-eight` of block/proofs/Column.antt).
+
+#![tactic(auto)]
+
 pub mod zero_shortcut;
 
 ghost use Rattle.std.specs.Prelude.{◌≡◌, map, ◌≤◌};

@@ -1,6 +1,9 @@
 // Tables by percent (document 02, card 6): a base table's quantizers, each times a percent.
 //
 // 255 · 200 + 50 fits 16 bits, where the compiler works on several divisors at once.
+
+#![tactic(auto)]
+
 ghost use Rattle.std.specs.Prelude.{◌≡◌, ◌≤◌, length};
 ghost use Rattle.refusals.specs.Refusals.{status, written};
 ghost use Rattle.percent.specs.Percent.{percent_divisor, percent_table, percent_tests};

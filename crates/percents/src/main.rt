@@ -1,5 +1,8 @@
 // Prints T.81's table K.1 (luminance) by percent (document 02, card 6): at 1, 50, 100 and 200 percent the 64 divisors, eight lines, one for
 // each v, eight numbers by rising u; at 0 and 201 percent the refusal. What cannot be written is left out: a program has no exit status.
+
+#![tactic(auto)]
+
 use libc::STDOUT_FILENO;
 use percent::percent_table;
 

@@ -3,6 +3,9 @@
 // A `Reader` is what the bytes before came to, and `step` takes one more, so that a caller reads no byte behind the header. A number
 // above 4096 is held as any such number, at most 40969, however many digits it has: nothing overflows, and no answer tells them
 // apart (`behind-like` of proofs/Text.antt).
+
+#![tactic(auto)]
+
 ghost use Rattle.std.specs.Prelude.{◌≡◌, true, false, List, ◌∷◌, ℕ, ◌+◌, ◌*◌, ◌-◌};
 ghost use Rattle.pgm.specs.Header.{Text, byte as Text·byte, is_space, is_digit, in_comment, header_of};
 ghost use Rattle.pgm.specs.Header.{whole as Header·whole};
@@ -14,7 +17,7 @@ use plane::is_measured;
 pub const LIMIT: usize = 65536;
 
 // What an input's header comes to; `length` is in bytes, with the delimiter.
-#[derive(Drop)]
+#[derive(Clone, Copy)]
 pub enum Answer {
     Header {
         width: usize,
@@ -25,7 +28,7 @@ pub enum Answer {
 }
 
 // Which number of the header, with the ones before it.
-#[derive(Drop)]
+#[derive(Clone, Copy)]
 pub enum Field {
     Width,
     Height(usize),
@@ -33,7 +36,7 @@ pub enum Field {
 }
 
 // How far a header is read, comments left out: nothing, `P`, `P5`, white space before a number, digits of a number with their value.
-#[derive(Drop)]
+#[derive(Clone, Copy)]
 pub enum Place {
     Start,
     P,
@@ -42,7 +45,7 @@ pub enum Place {
     In(Field, usize),
 }
 
-#[derive(Drop)]
+#[derive(Clone, Copy)]
 pub struct Reader {
     place: Place,
     // Whether a comment is open.
@@ -51,7 +54,7 @@ pub struct Reader {
     count: usize,
 }
 
-#[derive(Drop)]
+#[derive(Clone, Copy)]
 pub enum Step {
     More(Reader),
     Done(Answer),

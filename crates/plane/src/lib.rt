@@ -3,6 +3,9 @@
 // A plane is at most 4096 × 4096, so every index is below 2^25 and nothing overflows (`samples-most` of proofs/Coding.antt). Forward each
 // block is copied out of the plane, its edge repeated, and coded into its own 64 places of the output; back each is decoded to a buffer
 // and copied to the picture (`decode`): no more than one block is held.
+
+#![tactic(auto)]
+
 pub mod decode;
 pub mod join;
 mod runs;

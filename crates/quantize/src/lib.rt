@@ -3,10 +3,13 @@
 //
 // |S| is at most 2^42 for 8-bit samples and 2^46 for 12-bit ones, and the divisor below 2^48 for any 16-bit quantizer, so 64 bits hold
 // every number on the way.
+
+#![tactic(auto)]
+
 ghost use Rattle.std.specs.Prelude.{◌≡◌, cond, ◌+◌, ◌*◌, ◌%◌, ◌<◌, ◌≤◌, ◌^◌, leb, nat_abs};
 ghost use Rattle.quantize.specs.Quantize.{divisor_of, with_sign, coefficient};
 
-#[derive(Drop)]
+#[derive(Clone, Copy)]
 struct Division {
     quotient: u32,
     remainder: u64,

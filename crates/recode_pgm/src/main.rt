@@ -4,6 +4,9 @@
 //
 // The header is read byte by byte and each strip to its length, so no byte behind the raster is read. Of the picture no more than a
 // strip is held.
+
+#![tactic(auto)]
+
 mod strip;
 
 ghost use Rattle.std.specs.Prelude.{◌≡◌, List, ℕ, ◌*◌, ◌≤◌, ◌<◌, length};

@@ -5,7 +5,7 @@ ghost use Rattle.std.specs.Prelude.{◌≡◌, ◌+◌, ◌≤◌, length};
 pub const ROOM: usize = 640;
 
 // A part of a record as it was read: a room that is 0 past it, and how many bytes were there.
-#[derive(Drop)]
+#[derive(Clone, Copy)]
 pub struct Part {
     pub bytes: [u8; ROOM],
     pub got: usize,

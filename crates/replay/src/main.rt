@@ -1,5 +1,8 @@
 // Runs the answers of the oracle and its harness, the files of data/, through the exported functions, and prints for each file how many
 // records it holds and how many of them differ.
+
+#![tactic(auto)]
+
 mod answer;
 mod block_cases;
 mod compare;
@@ -20,7 +23,7 @@ const HEADER: usize = 256;
 // A proved loop has to end, and nothing says that a file does. No file holds so many records.
 const MOST: u64 = 1_000_000;
 
-#[derive(Drop)]
+#[derive(Clone, Copy)]
 enum Turn {
     Same,
     Different,

@@ -1,6 +1,9 @@
 // Demand 3 of what the calls write (document 01, "Demand 3 in numbers"): every call that it is about, made one after the other for two
 // blocks and one table. The theorem over the definitions is `demand-3` of the crate bounds. What document 02, card 8, says of two 12-bit
 // blocks is in `twelve_bit`.
+
+#![tactic(auto)]
+
 pub mod twelve_bit;
 
 ghost use Rattle.std.specs.Prelude.{◌≡◌, length};

@@ -1,4 +1,7 @@
 // Scaling of the ISLOW inverse transforms (idct.rs; document 01, leaf 1).
+
+#![tactic(auto)]
+
 ghost use Rattle.std.specs.Prelude.{◌≡◌, ◌≤◌};
 ghost use Rattle.std.specs.Int.{w32, w64};
 ghost use Rattle.scaling.specs.Scaling.{descaled, descale_answer};
@@ -6,7 +9,7 @@ ghost use Rattle.scaling.specs.Scaling.{descaled, descale_answer};
 use wrapping::{wrapping_add_i32, wrapping_add_i64};
 
 // What `descale` answers: status 0 and the value, or a refusal's number and 0.
-#[derive(Drop)]
+#[derive(Clone, Copy)]
 pub struct Descaled {
     pub status: u32,
     pub value: i32,

@@ -1,6 +1,9 @@
 // Blocks of stored coefficients (document 01, "Added by design"; the screen by document 02, card 3): dequantizing, the screen and sameness.
 //
 // A product of a 16-bit coefficient and a divisor of 1..255 is at most 32768·255 in absolute value, well within 32 bits.
+
+#![tactic(auto)]
+
 ghost use Rattle.std.specs.Prelude.{◌≡◌, ◌≤◌, length, pos, nat_abs, ◌+ℤ◌, ◌-ℤ◌, ◌*ℤ◌, ◌&&◌};
 ghost use Rattle.quantize.specs.Quantize.{divisor_of};
 ghost use Rattle.refusals.specs.Refusals.{block_tests, status, written};
@@ -13,7 +16,7 @@ ghost use Rattle.stored_blocks.specs.Stored.{screened, screen_answer, same_block
 use quantize::divisor;
 
 // What `screen` and `same` answer: status 0 and the flag, or a refusal's number and no.
-#[derive(Drop)]
+#[derive(Clone, Copy)]
 pub struct Answer {
     pub status: u32,
     pub yes: bool,

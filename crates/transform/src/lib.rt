@@ -3,6 +3,9 @@
 // After the refusals a block of equal samples goes its own way (`constant`); of any other, the guarded coefficients (`guarded`: the
 // values of crate fdct_f64 times the reciprocals, rounded by the bits of one sum or, where that does not tell, by their own, `binary64`)
 // are laid out as one record (`record`), with the table's divisors. Two records are compared in `same`.
+
+#![tactic(auto)]
+
 pub mod binary64;
 mod constant;
 mod guarded;

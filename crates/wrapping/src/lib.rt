@@ -1,6 +1,9 @@
 // Rust's `wrapping_add`, `wrapping_sub` and `wrapping_mul` at i32 and at i64: the exact result, wrapped to the type.
 //
 // Each goes through the operands' bits (`bits`), where unsigned arithmetic wraps. The compiler makes one instruction of each function.
+
+#![tactic(auto)]
+
 pub mod bits;
 
 ghost use Rattle.std.specs.Prelude.{◌≡◌, ◌*◌, ◌%◌, ◌^◌, ◌+ℤ◌, ◌-ℤ◌, ◌*ℤ◌};

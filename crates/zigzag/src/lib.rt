@@ -1,5 +1,8 @@
 // Zigzag order (`ZIGZAG` of jpeg.rs; in `natural` its inverse, `NATURAL_TO_ZIGZAG` of transform.rs; document 01, "The guarded quantizer"; T.81 A.3.6 and
 // figure 5): place z of a stream of coefficients holds the coefficient with the natural index n = 8v + u.
+
+#![tactic(auto)]
+
 pub mod natural;
 
 ghost use Rattle.std.specs.Prelude.{◌≡◌};
