@@ -3,7 +3,7 @@
 // The transform of Arai, Agui and Nakajima has five products and leaves output u larger by 2√2·AAN_SCALE[u], which the divisors take
 // off. Each operation is rounded once, in the Rust's order: the definition is the same operations of IEEE 754's binary64 in the
 // same order.
-ghost use Rattle.core.specs.Prelude.{◌≡◌};
+ghost use Rattle.std.specs.Prelude.{◌≡◌};
 ghost use Rattle.guarded_quantizer.specs.Transform.{fdct8};
 
 // `core::f64::consts::FRAC_1_SQRT_2`.

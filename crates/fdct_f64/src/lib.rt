@@ -8,7 +8,7 @@
 
 mod fdct_8;
 
-ghost use Rattle.core.specs.Prelude.{◌≡◌, ◌+◌, ◌*◌, ◌<◌, [], length, get_or, slice_index, slice_index_or};
+ghost use Rattle.std.specs.Prelude.{◌≡◌, ◌+◌, ◌*◌, ◌<◌, [], length, get_or, slice_index, slice_index_or};
 ghost use Rattle.guarded_quantizer.specs.Divisors.{aan_scale, has_zero, reciprocal, reciprocals, made_divisors, zero_divisors, divisors_answer};
 ghost use Rattle.std.specs.Float.{nan};
 ghost use Rattle.lists.specs.Tab.{tab};

@@ -1,6 +1,6 @@
 -- The answers of `fdct_quantize` of transform.rs, as its code builds them.
 -- Assumes nothing.
-use Rattle.core.specs.Prelude.{◌≡◌, ℕ, Bool, cond, List, length, replicate, ℤ, pos}
+use Rattle.std.specs.Prelude.{◌≡◌, ℕ, Bool, cond, List, length, replicate, ℤ, pos}
 use mathlib.Core.Path.{refl, sym, ap, ◌∙◌}
 use borrow.Author.Tests.{eqb-true}
 use lib.Ieee.{Float}

@@ -1,6 +1,6 @@
 -- One bit of a number: read, replaced, and what masks do to it.
 -- Assumes nothing.
-use Rattle.core.specs.Prelude.{◌≡◌, ℕ, suc, ◌+◌, ◌-◌, ◌*◌, ◌/◌, ◌%◌, ◌^◌, ◌<◌, min, max}
+use Rattle.std.specs.Prelude.{◌≡◌, ℕ, suc, ◌+◌, ◌-◌, ◌*◌, ◌/◌, ◌%◌, ◌^◌, ◌<◌, min, max}
 use mathlib.Core.Path.{sym, ap, ap₂, subst, ◌∙◌}
 use native.Mathlib.Nat.{mod-lt, mod-eq_of_lt, add-zero, add-mul, one-mul, pow-suc, min-zero}
 use native.Mathlib.Decide.{dec_lt}

@@ -1,6 +1,6 @@
 -- The sums of 64 equal samples: the DC is a multiple of the sample, and every AC is zero.
 -- Assumes nothing.
-use Rattle.core.specs.Prelude.{◌≡◌, ℕ, ◌^◌, ◌<◌, true, T, eqb, List, get_or, pos, ◌-ℤ◌, ◌*ℤ◌}
+use Rattle.std.specs.Prelude.{◌≡◌, ℕ, ◌^◌, ◌<◌, true, T, eqb, List, get_or, pos, ◌-ℤ◌, ◌*ℤ◌}
 use mathlib.Core.Path.{sym, subst}
 use native.Mathlib.Omega.{arith}
 use lib.Dec.{eqb→eq}

@@ -1,6 +1,6 @@
 -- The digits of a float by its value.
 -- Assumes nothing.
-use Rattle.core.specs.Prelude.{◌≡◌, ℕ, ◌+◌, ◌-◌, ◌*◌, ◌^◌, ◌<◌, ◌≤◌, Bool, true, false, T}
+use Rattle.std.specs.Prelude.{◌≡◌, ℕ, ◌+◌, ◌-◌, ◌*◌, ◌^◌, ◌<◌, ◌≤◌, Bool, true, false, T}
 use mathlib.Core.Path.{refl, sym, ap, subst, ◌∙◌}
 use native.Mathlib.Decide.{dec_lt}
 use native.Mathlib.Nat.{le_trans, le_of_eq, lt_irrefl, mul-le-mul_left, lt_of_lt_of_le, lt_of_le_of_lt, mul-le-mul_right, eq_of_mul-eq-mul_right, le-add_right}

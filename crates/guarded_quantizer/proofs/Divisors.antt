@@ -1,6 +1,6 @@
 -- The divisors, as the code computes them.
 -- Assumes nothing.
-use Rattle.core.specs.Prelude.{◌≡◌, ℕ, List, get_or, replicate, pos}
+use Rattle.std.specs.Prelude.{◌≡◌, ℕ, List, get_or, replicate, pos}
 use mathlib.Core.Path.{refl}
 use lib.Ieee.{Float, nan, binary64, mul, div, of_int, of_bits, round}
 use Rattle.lists.specs.Tab.{tab}

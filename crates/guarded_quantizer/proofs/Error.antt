@@ -1,6 +1,6 @@
 -- The rounding error of binary64 in whole numbers. The unit is the format's smallest value, 2 ^ -1074.
 -- Assumes nothing.
-use Rattle.core.specs.Prelude.{◌≡◌, ℕ, suc, ◌+◌, ◌-◌, ◌*◌, ◌/◌, ◌%◌, ◌^◌, ◌<◌, ◌≤◌, Bool}
+use Rattle.std.specs.Prelude.{◌≡◌, ℕ, suc, ◌+◌, ◌-◌, ◌*◌, ◌/◌, ◌%◌, ◌^◌, ◌<◌, ◌≤◌, Bool}
 use mathlib.Core.Path.{sym, ap, subst, ◌∙◌}
 use Prim.Native.Nat.{compare}
 use native.Mathlib.Nat.{lt_of_lt_of_le, mul_comm, mul_assoc, mul_left_comm, suc-mul, mul-pos, mul-le-mul_left, mul-le-mul_right, lt_of_mul-lt-mul_right, mod-lt, div-add-mod', div-lt_iff_lt-mul, mul-div-mul_right}

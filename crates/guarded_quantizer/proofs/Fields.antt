@@ -1,7 +1,7 @@
 -- The value of an f64 by the fields of its bits: the sign s, the exponent field x and the lower 52 bits t. Below the field 2047 it is
 -- `weight` x t / 2 ^ 1074 in absolute value, and at 2047 an infinity, where it is no NaN.
 -- Assumes nothing.
-use Rattle.core.specs.Prelude.{◌≡◌, ℕ, zero, suc, ◌+◌, ◌-◌, ◌*◌, ◌/◌, ◌%◌, ◌^◌, ◌<◌, ◌≤◌, Bool, true, false, cond, not, T, eqb, leb}
+use Rattle.std.specs.Prelude.{◌≡◌, ℕ, zero, suc, ◌+◌, ◌-◌, ◌*◌, ◌/◌, ◌%◌, ◌^◌, ◌<◌, ◌≤◌, Bool, true, false, cond, not, T, eqb, leb}
 use mathlib.Core.Path.{refl, sym, ap, ◌∙◌, subst}
 use mathlib.Core.Bool.{true≢false}
 use native.Mathlib.Nat.{add-suc, suc-add, mul-one, mul_assoc, mod-lt, lt_of_lt_of_le}

@@ -2,7 +2,7 @@
 -- apart: the lower 52 bits of the sum are q + 32768.5 in units of 2 ^ -16, at most one unit off. So their part above 2 ^ 16, less 32768, is q
 -- rounded, and q is no nearer than 2 ^ -16 to a half, unless the rest is within a unit of an end.
 -- Assumes nothing.
-use Rattle.core.specs.Prelude.{◌≡◌, ℕ, ◌+◌, ◌-◌, ◌*◌, ◌/◌, ◌%◌, ◌^◌, ◌<◌, ◌≤◌, min, Bool, true, false, not, ◌&&◌, T, leb, ℤ, pos, negsuc, ◌+ℤ◌, ◌-ℤ◌, neg_ℤ, nat_abs}
+use Rattle.std.specs.Prelude.{◌≡◌, ℕ, ◌+◌, ◌-◌, ◌*◌, ◌/◌, ◌%◌, ◌^◌, ◌<◌, ◌≤◌, min, Bool, true, false, not, ◌&&◌, T, leb, ℤ, pos, negsuc, ◌+ℤ◌, ◌-ℤ◌, neg_ℤ, nat_abs}
 use mathlib.Core.Path.{refl, sym, ap, subst, ◌∙◌}
 use mathlib.Core.Bool.{true≢false}
 use native.Mathlib.Nat.{le_of_eq, le_of_lt, one-mul, lt_of_lt_of_le, lt_of_le_of_lt, mul_right_comm, mul-lt-mul_of_pos_right, lt_of_mul-lt-mul_right}

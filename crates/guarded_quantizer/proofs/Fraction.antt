@@ -1,6 +1,6 @@
 -- `around_half` and `rounded` see only the value of their fraction: equal fractions, a / b and c / d, give the same.
 -- Assumes nothing.
-use Rattle.core.specs.Prelude.{◌≡◌, ℕ, ◌+◌, ◌-◌, ◌*◌, ◌/◌, ◌%◌, ◌^◌, ◌<◌, ◌≤◌, Bool, cond, ◌&&◌, ltb, leb}
+use Rattle.std.specs.Prelude.{◌≡◌, ℕ, ◌+◌, ◌-◌, ◌*◌, ◌/◌, ◌%◌, ◌^◌, ◌<◌, ◌≤◌, Bool, cond, ◌&&◌, ltb, leb}
 use mathlib.Core.Path.{sym, ◌∙◌}
 use native.Mathlib.Decide.{dec_le, dec_lt}
 use native.Mathlib.Nat.{mul-le-mul_right, mul-lt-mul_of_pos_right, div-add-mod'}

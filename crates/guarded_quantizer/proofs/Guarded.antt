@@ -1,6 +1,6 @@
 -- The guarded coefficients, as the code chooses them.
 -- Assumes nothing.
-use Rattle.core.specs.Prelude.{◌≡◌, ℕ, ◌<◌, cond, List, get_or, ℤ}
+use Rattle.std.specs.Prelude.{◌≡◌, ℕ, ◌<◌, cond, List, get_or, ℤ}
 use mathlib.Core.Path.{ap, ◌∙◌}
 use lib.Ieee.{Float, nan, binary64, mul}
 use Rattle.lists.proofs.Tab.{get_d-tab}

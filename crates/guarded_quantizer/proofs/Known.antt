@@ -1,6 +1,6 @@
 -- The definitions at known values, computed from their bit patterns.
 -- Assumes nothing.
-use Rattle.core.specs.Prelude.{◌≡◌, ℕ, Bool, true, false, [], ◌∷◌, map, ℤ, pos, neg_ℤ}
+use Rattle.std.specs.Prelude.{◌≡◌, ℕ, Bool, true, false, [], ◌∷◌, map, ℤ, pos, neg_ℤ}
 use mathlib.Core.Path.{refl}
 use lib.Count.{count_trailing_zeros}
 use lib.Ieee.{binary64, odd, of_fields, of_bits, to_signed}

@@ -1,6 +1,6 @@
 -- The AC places in zigzag order.
 -- Assumes nothing.
-use Rattle.core.specs.Prelude.{ℕ, zero, suc, ◌<◌, ◌≤◌, Bool, ◌&&◌, T, ltb, leb, List, get_or}
+use Rattle.std.specs.Prelude.{ℕ, zero, suc, ◌<◌, ◌≤◌, Bool, ◌&&◌, T, ltb, leb, List, get_or}
 use mathlib.Core.List.{flat_map}
 use native.Mathlib.Omega.{arith}
 use lib.Dec.{leb→le, ltb→lt}

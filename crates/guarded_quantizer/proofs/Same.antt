@@ -1,7 +1,7 @@
 -- Sameness of two records (document 02, card 9): what a yes says, both ways; what is not looked at; an
 -- equivalence; and finer only.
 -- Assumes nothing.
-use Rattle.core.specs.Prelude.{◌≡◌, ℕ, zero, suc, ◌<◌, ◌≤◌, Bool, ◌||◌, T, eqb, List, ◌∷◌, get_or, ℤ, pos}
+use Rattle.std.specs.Prelude.{◌≡◌, ℕ, zero, suc, ◌<◌, ◌≤◌, Bool, ◌||◌, T, eqb, List, ◌∷◌, get_or, ℤ, pos}
 use mathlib.Core.Path.{refl, sym, subst, ◌∙◌}
 use native.Mathlib.Omega.{arith}
 use borrow.Author.Tests.{eq-eqb, ne_eqb}

@@ -1,6 +1,6 @@
 -- A zero among the first places of a table, or none at all.
 -- Assumes nothing.
-use Rattle.core.specs.Prelude.{◌≡◌, ℕ, zero, suc, ◌+◌, ◌<◌, ◌≤◌, Bool, true, not, ◌||◌, T, eqb, List, [], ◌∷◌, ◌++◌, length, get_or, take}
+use Rattle.std.specs.Prelude.{◌≡◌, ℕ, zero, suc, ◌+◌, ◌<◌, ◌≤◌, Bool, true, not, ◌||◌, T, eqb, List, [], ◌∷◌, ◌++◌, length, get_or, take}
 use mathlib.Core.Path.{sym, ap, subst, ◌∙◌}
 use mathlib.Core.Bool.{or-false, or_assoc}
 use native.Mathlib.Numerals.{add-one}

@@ -1,5 +1,5 @@
 -- Document 01, "The guarded quantizer" and "Refusing calls": what `fdct_quantize` of transform.rs answers.
-use Rattle.core.specs.Prelude.{ℕ, cond, List, ◌∷◌, ℤ, pos}
+use Rattle.std.specs.Prelude.{ℕ, cond, List, ◌∷◌, ℤ, pos}
 use Rattle.std.specs.Prelude.{Float}
 use Rattle.lists.specs.Tab.{tab}
 use Rattle.refusals.specs.Refusals.{Test, ◌unless◌, ◌of◌, status, written}

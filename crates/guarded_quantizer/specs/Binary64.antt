@@ -1,6 +1,6 @@
 -- Document 01, "The guarded quantizer", on one f64 q, "value × reciprocal", in whole numbers. A finite q is a / b in absolute value, with
 -- a = m * up e and b = down e; s is true where q is negative.
-use Rattle.core.specs.Prelude.{ℕ, ◌+◌, ◌-◌, ◌*◌, ◌%◌, ◌^◌, Bool, false, ◌&&◌, ℤ, pos, nat_lt}
+use Rattle.std.specs.Prelude.{ℕ, ◌+◌, ◌-◌, ◌*◌, ◌%◌, ◌^◌, Bool, false, ◌&&◌, ℤ, pos, nat_lt}
 use Rattle.std.specs.Prelude.{Float}
 use Rattle.std.specs.Float.{nan, inf, fin}
 use Rattle.std.specs.Float.Ieee.{up, down, to_signed}

@@ -1,5 +1,5 @@
 -- Document 01, "The guarded quantizer": the bitmap of nonzero AC places.
-use Rattle.core.specs.Prelude.{ℕ, ◌+◌, ◌-◌, ◌*◌, ◌/◌, ◌%◌, ◌^◌, cond, List, ℤ, pos, ◌==◌, slice_index_or, unsigned_abs}
+use Rattle.std.specs.Prelude.{ℕ, ◌+◌, ◌-◌, ◌*◌, ◌/◌, ◌%◌, ◌^◌, cond, List, ℤ, pos, ◌==◌, slice_index_or, unsigned_abs}
 use Rattle.forward.specs.Sum.{total}
 
 -- bit k of b

@@ -1,5 +1,5 @@
 -- Document 01, "The guarded quantizer": a block of 64 equal samples.
-use Rattle.core.specs.Prelude.{ℕ, Bool, cond, List, ℤ, pos, ◌==◌, nat_eq, slice_index}
+use Rattle.std.specs.Prelude.{ℕ, Bool, cond, List, ℤ, pos, ◌==◌, nat_eq, slice_index}
 use Rattle.lists.specs.Below.{below}
 use Rattle.forward.specs.Canonical.{canonical}
 

@@ -1,5 +1,5 @@
 -- Document 01, "The guarded quantizer": the coefficient at one frequency.
-use Rattle.core.specs.Prelude.{ℕ, cond, List, ℤ, slice_index_or}
+use Rattle.std.specs.Prelude.{ℕ, cond, List, ℤ, slice_index_or}
 use Rattle.std.specs.Prelude.{Float}
 use Rattle.std.specs.Float.{nan, binary64}
 use Rattle.std.specs.Float.Ieee.{mul}

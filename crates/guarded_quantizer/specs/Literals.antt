@@ -1,5 +1,5 @@
 -- The f64 literals of transform.rs.
-use Rattle.core.specs.Prelude.{ℕ, ◌^◌, false}
+use Rattle.std.specs.Prelude.{ℕ, ◌^◌, false}
 use Rattle.std.specs.Prelude.{Float}
 use Rattle.std.specs.Float.{binary64}
 use Rattle.std.specs.Float.Ieee.{round}

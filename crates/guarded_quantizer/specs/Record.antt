@@ -1,5 +1,5 @@
 -- Document 01, "The guarded quantizer", and document 02, card 9: the record of a block's coefficients.
-use Rattle.core.specs.Prelude.{ℕ, cond, List, ℤ, pos, ◌==◌, slice_index}
+use Rattle.std.specs.Prelude.{ℕ, cond, List, ℤ, pos, ◌==◌, slice_index}
 use Rattle.lists.specs.Tab.{tab}
 use Rattle.zigzag.specs.Zigzag.{zigzag_order}
 use Rattle.guarded_quantizer.specs.Bitmap.{bitmap_of}

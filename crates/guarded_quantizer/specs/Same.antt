@@ -1,5 +1,5 @@
 -- Document 02, card 9: sameness of two records.
-use Rattle.core.specs.Prelude.{◌≡◌, ℕ, ◌<◌, ◌≤◌, Bool, cond, ◌&&◌, ◌||◌, List, ℤ, pos, ◌==◌, nat_eq, slice_index, slice_index_or}
+use Rattle.std.specs.Prelude.{◌≡◌, ℕ, ◌<◌, ◌≤◌, Bool, cond, ◌&&◌, ◌||◌, List, ℤ, pos, ◌==◌, nat_eq, slice_index, slice_index_or}
 use Rattle.integers.specs.Equal.{eq_z}
 use Rattle.lists.specs.Tab.{tab}
 use Rattle.lists.specs.Below.{below}

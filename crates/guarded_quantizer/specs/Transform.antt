@@ -1,5 +1,5 @@
 -- Document 01, "The guarded quantizer": `fdct_8`, each operation rounded once in the Rust's order.
-use Rattle.core.specs.Prelude.{List, [], ◌∷◌, slice_index_or}
+use Rattle.std.specs.Prelude.{List, [], ◌∷◌, slice_index_or}
 use Rattle.std.specs.Prelude.{Float}
 use Rattle.std.specs.Float.{nan, binary64}
 use Rattle.std.specs.Float.Ieee.{add, sub, mul}

@@ -1,5 +1,5 @@
 -- `fdct_f64::has_zero` meets its contract. Assumes nothing.
-use Rattle.core.specs.Prelude.{◌≡◌, ◌-◌, ◌≤◌, take}
+use Rattle.std.specs.Prelude.{◌≡◌, ◌-◌, ◌≤◌, take}
 use mathlib.Core.Path.{refl, ◌∙◌, ap}
 use native.Mathlib.Omega.{arith}
 use lib.Seq.{take_all}

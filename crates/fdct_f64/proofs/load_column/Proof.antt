@@ -1,5 +1,5 @@
 -- `fdct_f64::load_column` meets its contract. Assumes nothing.
-use Rattle.core.specs.Prelude.{◌-◌, ◌≤◌, [], get_or}
+use Rattle.std.specs.Prelude.{◌-◌, ◌≤◌, [], get_or}
 use mathlib.Core.Path.{refl}
 use native.Mathlib.Omega.{arith}
 use lib.Ieee.{nan}

@@ -1,5 +1,5 @@
 -- `fdct_f64::quantization_divisors` meets its contract. Assumes nothing.
-use Rattle.core.specs.Prelude.{◌≡◌, not}
+use Rattle.std.specs.Prelude.{◌≡◌, not}
 use mathlib.Core.Path.{sym, ap, ◌∙◌}
 use borrow.Author.Rules.{rules}
 use Rattle.refusals.proofs.Refusals.{has, lacks, ◌then◌, refused, accepted}
