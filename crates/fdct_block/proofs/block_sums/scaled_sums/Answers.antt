@@ -18,11 +18,11 @@ loop-n-preserved c =
 
 pub returns : goal.returns
 returns c =
-    let l = c.loop-n in let e = filled l.invariant.1 (omega arith) in let all = (
-      e,
-      λ n. subst (λ (sums : List ℤ). nat_abs (get_or sums n (pos 0)) ≤ 2 ^ 46) (sym e)
-          (get_d-every (λ (z : ℤ). nat_abs z ≤ 2 ^ 46) 64 (centred_sum c.args.samples.now) (pos 0) (omega arith) (λ k b. omega (arith, scaled-size c.args.samples.now (2 ^ 11) c.requires k b)) n),
-    ) in record { value = all.0; by_index = all.1 }
+    let l = c.loop-n in let e = filled l.invariant.1 (omega arith) in record {
+      value = e;
+      by_index = λ n. subst (λ (sums : List ℤ). nat_abs (get_or sums n (pos 0)) ≤ 2 ^ 46) (sym e)
+          (get_d-every (λ (z : ℤ). nat_abs z ≤ 2 ^ 46) 64 (centred_sum c.args.samples.now) (pos 0) (omega arith) (λ k b. omega (arith, scaled-size c.args.samples.now (2 ^ 11) c.requires k b)) n);
+    }
 
 pub loop-n-init : goal.loop-n-init
 loop-n-init c = (omega arith, none _ 64 _ refl)

@@ -10,10 +10,8 @@ use Rattle.lists.proofs.Tab.{Filled, none, more, all}
 use Rattle.forward.specs.Parity.{folded, folded_quadrant}
 use Rattle.forward.proofs.Scaled.{fold-size}
 use Rattle.fdct_block.proofs.Narrow.{kept}
+use Rattle.fdct_block.proofs.folds.fold.Invariants.{at}
 use Rattle.fdct_block.proofs.folds.fold.Goals as goal
-
-abbrev at : List ℤ → ℕ → ℕ → ℕ → ℤ
-at c u v k = folded c u v (k % 4) (k / 4)
 
 -- the fold at column x of row y is place 4y + x
 read : (c : List ℤ) (u v x y : ℕ) → x < 4 → (r : ℤ) → r ≡ folded c u v x y → nat_abs r ≤ 2 ^ 13 → to_z w16 (of_z w16 r) ≡ at c u v (4 * y + x)

@@ -24,4 +24,4 @@ pub quantize-requires : goal.quantize-requires
 quantize-requires c = (scaled c).1
 
 pub returns : goal.returns
-returns c = let all = kept-coefficient c.args.quantizer c.quantize.ensures (scaled c.before).0 in record { value = all.0; result_bound = all.1 }
+returns c = let all = kept-coefficient c.args.quantizer (c.quantize.ensures.value, c.quantize.ensures.result_bound) (scaled c.before).0 in record { value = all.0; result_bound = all.1 }

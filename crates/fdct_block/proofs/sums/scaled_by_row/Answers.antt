@@ -1,5 +1,4 @@
 use Prim.Native.Nat.{ℕ, ◌-◌}
-use mathlib.Core.List.{List}
 use mathlib.Core.Path.{◌≡◌, ap, ◌∙◌}
 use native.Mathlib.Omega.{arith}
 use lib.ListN.{get_or}
@@ -8,10 +7,8 @@ use mir.Syntax.{w16, w32}
 use mir.ValLaws.{to_z-of_z}
 use Rattle.forward.specs.Sum.{sum_to}
 use Rattle.fdct_block.proofs.Terms.{no-terms, next_fits, next-term}
+use Rattle.fdct_block.proofs.sums.scaled_by_row.Invariants.{term}
 use Rattle.fdct_block.proofs.sums.scaled_by_row.Goals as goal
-
-abbrev term : List ℤ → List ℤ → ℕ → ℤ
-term f row k = get_or f k (pos 0) *ℤ get_or row k (pos 0)
 
 -- what a call of `product` gave
 read : (c : goal.After-product-s) → (let a = c.args in c.product-s.result ≡ term a.f.now a.row.now c.loop-k.k)

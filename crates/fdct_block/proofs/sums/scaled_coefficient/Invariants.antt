@@ -1,11 +1,15 @@
-use Prim.Native.Nat.{◌-◌, ◌≤◌}
-use mir.Syntax.{w64}
-use mir.Val.{to_z}
+use Prim.Native.Nat.{ℕ, ◌+◌, ◌-◌, ◌*◌, ◌≤◌}
+use mathlib.Core.List.{List}
+use lib.ListN.{get_or}
+use lib.IntN.{ℤ, pos, ◌*ℤ◌}
 use Rattle.fdct_block.proofs.Terms.{Summed}
 use Rattle.fdct_block.proofs.sums.scaled_coefficient.Given as goal
 
+abbrev pub term : List ℤ → List ℤ → ℕ → ℕ → ℤ
+term f table n k = get_or f k (pos 0) *ℤ get_or table (16 * n + k) (pos 0)
+
 abbrev pub invariant-loop-k : goal.invariant-loop-k
-invariant-loop-k l = (l.k ≤ 16) × Summed (term l.f l.table l.n) l.k (to_z w64 l.s)
+invariant-loop-k l = (l.k ≤ 16) × Summed (term l.f l.table l.n) l.k l.s
 
 abbrev pub decreases-loop-k : goal.decreases-loop-k
 decreases-loop-k l = 16 - l.k
