@@ -27,6 +27,7 @@ no-shortcut p = go (zero_at eight.ac p)
   where
     go : (b : Bool) → T (not b) → b ≡ false
     go false t = refl
+    go true t = elim t [ ]
 
 module _ (f : ℕ → List ℤ) where
   pub full-next : (k : ℕ) {s t : Bool} {p : List ℤ} → s ≡ every full (take k (tab 8 f)) → k < 8 → p ≡ f k → t ≡ zero_at eight.ac p → (not t && s) ≡ every full (take (k + 1) (tab 8 f))

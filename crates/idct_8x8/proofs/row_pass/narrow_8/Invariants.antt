@@ -1,0 +1,11 @@
+use Prim.Native.Nat.{◌-◌}
+use lib.ListN.{get_or}
+use lib.IntN.{pos}
+use Rattle.lists.proofs.Tab.{Filled}
+use Rattle.idct_8x8.proofs.row_pass.narrow_8.Given as goal
+
+abbrev pub invariant-loop-k : goal.invariant-loop-k
+invariant-loop-k l = Filled (λ i. get_or l.q i (pos 0)) 8 l.k l.r
+
+abbrev pub decreases-loop-k : goal.decreases-loop-k
+decreases-loop-k l = 8 - l.k
