@@ -1,0 +1,18 @@
+use mathlib.Core.Path.{ap, ◌∙◌}
+use Prim.Native.Nat.{ℕ, ◌%◌, ◌^◌}
+use native.Mathlib.Nat.{mod-lt}
+use lib.Dec.{lit<}
+use mir.Syntax.{w32, w64}
+use mir.Val.{to_z, of_z}
+use mir.ValLaws.{to_z-of_z}
+use Rattle.integers.proofs.Wrap.{wrap-read}
+use Rattle.idct_12bit.proofs.Small.{low_bits}
+use Rattle.idct_12bit.proofs.samples_12bit.low_32.Goals as goal
+
+pub returns : goal.returns
+returns c =
+    let bits = c.to_bits_i64.ensures ∙ ap (of_z w64) (to_z-of_z w64 c.args.x c.ranges.x) in
+    wrap-read w32 c.args.x (c.from_bits_u32.ensures ∙ ap (λ (n : ℕ). to_z w32 (n % 2 ^ 32)) bits ∙ low_bits c.args.x c.ranges.x)
+
+pub overflow_cast-to_bits_i64 : goal.overflow_cast-to_bits_i64
+overflow_cast-to_bits_i64 c = record { fits = mod-lt c.to_bits_i64.result (lit< tt) }
