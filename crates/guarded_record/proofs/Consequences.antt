@@ -2,7 +2,7 @@
 -- 3's bounds, the screen (card 3), sameness (card 9). r is the record: its coefficients in natural order are `bare_block r`, and its divisors
 -- are the table's.
 -- Assumes nothing.
-use mathlib.Core.Path.{◌≡◌, refl, sym, ap, subst₂, ◌∙◌}
+use mathlib.Core.Path.{◌≡◌, sym, ap, subst₂, ◌∙◌}
 use mathlib.Core.List.{List}
 use Prim.Native.Nat.{ℕ, ◌≤◌}
 use lib.Dec.{T}

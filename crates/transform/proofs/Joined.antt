@@ -1,7 +1,7 @@
 -- "Finer only: records the new rule joins were joined before" (document 02, card 9): by the sameness of bare blocks, which stays as it
 -- was (`stored_blocks::same`).
 -- Assumes nothing.
-use mathlib.Core.Path.{◌≡◌, sym, ◌∙◌}
+use mathlib.Core.Path.{◌≡◌, sym}
 use mathlib.Core.Bool.{true}
 use mathlib.Core.List.{List}
 use Prim.Native.Nat.{ℕ}

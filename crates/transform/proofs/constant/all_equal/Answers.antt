@@ -1,4 +1,3 @@
-use Prim.Native.Nat.{◌-◌}
 use mathlib.Core.Path.{refl}
 use native.Mathlib.Omega.{arith}
 use lib.Dec.{eqb}
@@ -17,22 +16,6 @@ unfolding constant
 returns c =
     let l = c.loop-n in let block = c.args.block.now in below_all (λ k. eqb (get_or block k 0) (get_or block 0 0)) l.n 64 l.invariant.1 (omega arith)
 
-pub bounds-block-0 : goal.bounds-block-0
-unfolding below
-bounds-block-0 c = omega arith
-
 pub loop-n-init : goal.loop-n-init
 unfolding below
 loop-n-init c = (omega arith, refl)
-
-pub bounds-block-n : goal.bounds-block-n
-unfolding below
-bounds-block-n c = omega arith
-
-pub overflow_add-n : goal.overflow_add-n
-unfolding below
-overflow_add-n c = omega arith
-
-pub loop-n-smaller : goal.loop-n-smaller
-unfolding below
-loop-n-smaller c = omega arith

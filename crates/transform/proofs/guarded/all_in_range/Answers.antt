@@ -1,4 +1,3 @@
-use Prim.Native.Nat.{◌-◌}
 use mathlib.Core.Path.{refl}
 use native.Mathlib.Omega.{arith}
 use lib.ListN.{get_or}
@@ -19,27 +18,3 @@ returns c =
 pub loop-u-init : goal.loop-u-init
 unfolding below
 loop-u-init c = (omega arith, refl)
-
-pub offset_bounds-scaled-u : goal.offset_bounds-scaled-u
-unfolding below
-offset_bounds-scaled-u c = omega arith
-
-pub bounds-scaled-u : goal.bounds-scaled-u
-unfolding below
-bounds-scaled-u c = omega arith
-
-pub offset_bounds-scaled-u-in-loop-u : goal.offset_bounds-scaled-u-in-loop-u
-unfolding below
-offset_bounds-scaled-u-in-loop-u c = omega arith
-
-pub bounds-scaled-u-in-loop-u : goal.bounds-scaled-u-in-loop-u
-unfolding below
-bounds-scaled-u-in-loop-u c = omega arith
-
-pub overflow_add-u : goal.overflow_add-u
-unfolding below
-overflow_add-u c = omega arith
-
-pub loop-u-smaller : goal.loop-u-smaller
-unfolding below
-loop-u-smaller c = omega arith

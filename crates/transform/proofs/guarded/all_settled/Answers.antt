@@ -1,4 +1,3 @@
-use Prim.Native.Nat.{◌-◌}
 use mathlib.Core.Path.{refl}
 use native.Mathlib.Omega.{arith}
 use lib.ListN.{get_or}
@@ -18,19 +17,3 @@ returns c =
 pub loop-u-init : goal.loop-u-init
 unfolding below
 loop-u-init c = (omega arith, refl)
-
-pub offset_bounds-points-u : goal.offset_bounds-points-u
-unfolding below
-offset_bounds-points-u c = omega arith
-
-pub bounds-points-u : goal.bounds-points-u
-unfolding below
-bounds-points-u c = omega arith
-
-pub overflow_add-u : goal.overflow_add-u
-unfolding below
-overflow_add-u c = omega arith
-
-pub loop-u-smaller : goal.loop-u-smaller
-unfolding below
-loop-u-smaller c = omega arith

@@ -1,6 +1,8 @@
-use Prim.Native.Nat.{ℕ, ◌-◌, ◌+◌, ◌*◌}
+use Prim.Native.Nat.{ℕ, ◌+◌, ◌*◌}
 use mathlib.Core.Path.{refl, ◌∙◌}
 use native.Mathlib.Omega.{arith}
+use lib.ListN.{get_or}
+use lib.IntN.{pos}
 use mir.Syntax.{w16}
 use mir.ValLaws.{to_z-of_z}
 use Rattle.lists.proofs.Tab.{none, more, same, all}
@@ -15,7 +17,7 @@ row_coefficients-row-requires c =
 pub loop-u-preserved : goal.loop-u-preserved
 loop-u-preserved c =
     let l = c.loop-u in let a = c.args in let v : ℕ = c.loop-v.v in
-    let stored = to_z-of_z w16 _ (record { sfits = c.coefficients-1.given }) in
+    let stored = to_z-of_z w16 (get_or c.row_coefficients-row.result l.u (pos 0)) (record { sfits = omega arith }) in
     let one = row_at _ _ c.scaled_row-scaled.ensures l.u (omega arith) a.block.now a.quant.now v c.row_coefficients-row.ensures in (
       omega arith,
       more _ 64 _ _ _ _ l.invariant.1 (omega arith) (omega arith)

@@ -12,7 +12,7 @@ returns-then-all_settled c =
     c.points_of-points.ensures (sym c.all_settled.ensures ∙ c.if-all_settled.true) c.whole_parts.ensures
 
 pub each_coefficient-requires : goal.each_coefficient-requires
-each_coefficient-requires c = let all = c.requires.1 in record { block_len = all.0; v_bound = all.1 }
+each_coefficient-requires c = record { block_len = c.requires.block_len; v_bound = c.requires.v_bound }
 
 pub returns : goal.returns
 returns c = c.each_coefficient.ensures

@@ -17,4 +17,4 @@ pub overflow_cast-result-2 : goal.overflow_cast-result-2
 overflow_cast-result-2 c = part-fits _ (most c)
 
 pub returns : goal.returns
-returns c = let all = stored (whole-value _ (most c)) (part-fits _ (most c)) in record { value = all.0; sfits = all.1 }
+returns c = stored (whole-value _ (most c)) (part-fits _ (most c))

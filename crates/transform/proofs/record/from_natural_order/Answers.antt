@@ -29,16 +29,16 @@ index z e a h = rw e (ac-index z a h).1
 pub loop-z-preserved : goal.loop-z-preserved
 loop-z-preserved c =
     let l = c.loop-z in let cs = c.args.coefficients.now in let n = get_or c.zigzag-order.result l.z 0 in
-    let back = to_z-of_z w16 (natural cs n) (record { sfits = c.coefficient-1.given }) in
+    let back = to_z-of_z w16 (natural cs n) (record { sfits = omega arith }) in
     let stored = back ∙ ap (λ (t : List ℕ). natural cs (get_or t l.z 0)) c.zigzag-order.ensures in
     let place = stored ∙ sym (ac-place (natural cs) l.z l.invariant.0 (omega arith)) in
-    let next = update-next (ac_places (natural cs)) l.z l.nonzero-ac l.invariant.0 (omega arith) l.invariant.3 in
-    (omega arith, omega arith, more _ 64 _ _ _ _ l.invariant.2 (omega arith) refl (stored ∙ sym (ac-at (natural cs) l.z l.invariant.0)), c.update_nonzero_ac-nonzero_ac.ensures ∙ ap (λ (x : ℤ). with_bit l.nonzero-ac (64 - l.z) (nonzero x)) place ∙ next)
+    let next = update-next (ac_places (natural cs)) l.z l.nonzero_ac l.invariant.0 (omega arith) l.invariant.3 in
+    (omega arith, omega arith, more _ 64 _ _ _ _ l.invariant.2 (omega arith) refl (stored ∙ sym (ac-at (natural cs) l.z l.invariant.0)), c.update_nonzero_ac-nonzero_ac.ensures ∙ ap (λ (x : ℤ). with_bit l.nonzero_ac (64 - l.z) (nonzero x)) place ∙ next)
 
 pub returns : goal.returns
 unfolding bitmap_of ac_places
 returns c =
-    let l = c.loop-z in let cs = c.args.coefficients.now in let dc = to_z-of_z w16 (natural cs 0) (record { sfits = c.dc-1.given }) in
+    let l = c.loop-z in let cs = c.args.coefficients.now in let dc = to_z-of_z w16 (natural cs 0) (record { sfits = omega arith }) in
     let ac = all _ 64 _ _ l.invariant.2 (omega arith) (omega arith) in
     let e : l.z ≡ 64 = omega arith in
     whole _ (natural cs) dc ac (l.invariant.3 ∙ ap (up_to (bit_at (ac_places (natural cs)))) e ∙ ap bitmap_of (sym ac)) c.table_of.ensures

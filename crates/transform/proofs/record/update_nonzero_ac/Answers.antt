@@ -11,5 +11,5 @@ pub returns : goal.returns
 returns c =
     let bit = c.nonzero_bit.ensures ∙ ap nonzero (to_z-of_z w16 c.args.coefficient c.ranges.coefficient) in
     let small = subst (λ (t : ℕ). t < 2) (sym bit) (nonzero-lt c.args.coefficient) in
-    update-bit c.args.bitmap (64 - c.args.zigzag) c.nonzero_bit.result c.ranges.bitmap.fits (omega (arith, (c.requires.le_zigzag, c.requires.zigzag_bound))) small
+    update-bit c.args.bitmap (64 - c.args.zigzag) c.nonzero_bit.result c.ranges.bitmap.fits (omega arith) small
     ∙ ap (with_bit c.args.bitmap (64 - c.args.zigzag)) bit

@@ -1,4 +1,3 @@
-use Prim.Native.Nat.{◌-◌}
 use mathlib.Core.Path.{refl, sym, ap, ◌∙◌}
 use mathlib.Core.Bool.{Bool, ◌||◌}
 use native.Mathlib.Omega.{arith}
@@ -18,7 +17,7 @@ pub loop-z-preserved : goal.loop-z-preserved
 loop-z-preserved c =
     let l = c.loop-z in let x = get_or c.args.a.now l.z (pos 0) in
     let y = get_or c.args.b.now l.z (pos 0) in
-    let agree = bits-eqb w16 {x = x} {y = y} (record { sfits = c.same-1.given }) (record { sfits = c.same-in-loop-z-1.given }) in
+    let agree = bits-eqb w16 {x = x} {y = y} (record { sfits = omega arith }) (record { sfits = omega arith }) in
     let later = ap (λ (t : Bool). t || eq_z x y) (sym (ne_eqb l.z 0 (λ e. omega arith))) in
     (omega arith, omega arith, below_next (λ k. eqb k 0 || eq_z (get_or c.args.a.now k (pos 0)) (get_or c.args.b.now k (pos 0))) l.z (agree ∙ later) l.invariant.2)
 
@@ -30,27 +29,3 @@ returns c =
 pub loop-z-init : goal.loop-z-init
 unfolding below
 loop-z-init c = (omega arith, omega arith, refl)
-
-pub offset_bounds-a-z : goal.offset_bounds-a-z
-unfolding below
-offset_bounds-a-z c = omega arith
-
-pub bounds-a-z : goal.bounds-a-z
-unfolding below
-bounds-a-z c = omega arith
-
-pub offset_bounds-b-z : goal.offset_bounds-b-z
-unfolding below
-offset_bounds-b-z c = omega arith
-
-pub bounds-b-z : goal.bounds-b-z
-unfolding below
-bounds-b-z c = omega arith
-
-pub overflow_add-z : goal.overflow_add-z
-unfolding below
-overflow_add-z c = omega arith
-
-pub loop-z-smaller : goal.loop-z-smaller
-unfolding below
-loop-z-smaller c = omega arith

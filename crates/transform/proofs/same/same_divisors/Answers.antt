@@ -1,4 +1,3 @@
-use Prim.Native.Nat.{◌-◌}
 use mathlib.Core.Path.{refl}
 use native.Mathlib.Omega.{arith}
 use lib.Dec.{eqb}
@@ -20,19 +19,3 @@ returns c =
 pub loop-n-init : goal.loop-n-init
 unfolding below
 loop-n-init c = (omega arith, refl)
-
-pub bounds-a-n : goal.bounds-a-n
-unfolding below
-bounds-a-n c = omega arith
-
-pub bounds-b-n : goal.bounds-b-n
-unfolding below
-bounds-b-n c = omega arith
-
-pub overflow_add-n : goal.overflow_add-n
-unfolding below
-overflow_add-n c = omega arith
-
-pub loop-n-smaller : goal.loop-n-smaller
-unfolding below
-loop-n-smaller c = omega arith

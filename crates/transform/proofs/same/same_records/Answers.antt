@@ -1,4 +1,5 @@
 use mathlib.Core.Bool.{◌&&◌}
+use native.Mathlib.Omega.{arith}
 use mir.Syntax.{w16}
 use Rattle.integers.proofs.Equal.{bits-eqb}
 use Rattle.guarded_quantizer.specs.Same.{same_numbers, same_records}
@@ -7,5 +8,5 @@ use Rattle.transform.proofs.same.same_records.Goals as goal
 pub returns : goal.returns
 unfolding same_numbers same_records
 returns c =
-    let dc = bits-eqb w16 (record { sfits = c.struct_told-1.given.0.1 }) (record { sfits = c.struct_told-2-1.given.0.1 }) in
+    let dc = bits-eqb w16 (record { sfits = omega arith }) (record { sfits = omega arith }) in
     λ i. (dc i && c.same_ac.ensures i) && c.same_divisors.ensures i
