@@ -28,10 +28,7 @@ pub struct Printed {
 fn is_accepted(input: &[u8]) -> bool
     ensures { result ≡ accepted input.now }
 {
-    if input.len() != 75 {
-        return false;
-    }
-    check::same(&input[..11], b"P5\n8 8\n255\n")
+    input.len() == 75 && input.starts_with(b"P5\n8 8\n255\n")
 }
 
 // Input that is not accepted has a text too, the line `refused 7`: the number is the program's, and this call has a result.
@@ -47,9 +44,11 @@ pub fn coefficient_text(input: &[u8], out: &mut [u8]) -> Printed
         };
     }
     if !is_accepted(input) {
+        let line = b"refused 7\n";
+        out[..line.len()].copy_from_slice(line);
         return Printed {
             status: 0,
-            count: bytes::copy(b"refused 7\n", out),
+            count: line.len(),
         };
     }
     let ones = [1u8; 64];
