@@ -4,6 +4,7 @@ use crate::found::{BLOCK, BLOCK_TABLE, X, Y};
 use crate::print::item;
 use basis::basis_table;
 use round_trip::round_trip;
+use std::io;
 
 const PLACE: usize = 8 * Y + X;
 
@@ -19,10 +20,8 @@ fn absolute(entry: i32) -> u64 {
 fn weighted_basis(quant: &[u8; 64]) -> u64 {
     let table = basis_table();
     let mut total = 0x4_0000_0000;
-    let mut n = 0;
-    while n < 64 {
+    for n in 0..64 {
         total = plus_product(total, apart(quant[n], 0), absolute(table[16 * n + ENTRY]));
-        n += 1;
     }
     total
 }
@@ -49,27 +48,29 @@ fn sample_back(block: &[u8; 64], quant: &[u8; 64]) -> u8 {
     samples[PLACE]
 }
 
-fn line(a: u8, c: u8, bound: u64) {
-    item(b"): sample ", a as u64);
-    item(b" comes back as ", c as u64);
+fn line(rt: &impl Print, a: u8, c: u8, bound: u64) -> io::Result<()> {
+    item(rt, "): sample ", a as u64)?;
+    item(rt, " comes back as ", c as u64)?;
     item(
-        b"; 2^33 times their difference ",
+        rt,
+        "; 2^33 times their difference ",
         0x2_0000_0000 * apart(a, c),
-    );
-    item(b", 2^34 and the weighted basis ", bound);
+    )?;
+    item(rt, ", 2^34 and the weighted basis ", bound)
 }
 
 // Apart from `report`, whose proof alone carries the tables.
-fn compared(block: &[u8; 64], quant: &[u8; 64]) {
-    item(b"\nplace (", X as u64);
-    item(b", ", Y as u64);
+fn compared(rt: &impl Print, block: &[u8; 64], quant: &[u8; 64]) -> io::Result<()> {
+    item(rt, "\nplace (", X as u64)?;
+    item(rt, ", ", Y as u64)?;
     line(
+        rt,
         block[PLACE],
         sample_back(block, quant),
         weighted_basis(quant),
-    );
+    )
 }
 
-pub fn report() {
-    compared(&BLOCK, &BLOCK_TABLE);
+pub fn report(rt: &impl Print) -> io::Result<()> {
+    compared(rt, &BLOCK, &BLOCK_TABLE)
 }
