@@ -17,5 +17,5 @@ pub fn agrees(recorded: Part, answer: Answer) -> bool
     }
     let expected = recorded.bytes;
     let given = answer.bytes;
-    check::same(&expected, &given)
+    expected == given
 }

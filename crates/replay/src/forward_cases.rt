@@ -22,14 +22,12 @@ pub fn zigzag(function: usize) -> Answer {
     let natural = zigzag::zigzag();
     let places = zigzag::natural::natural_to_zigzag();
     let mut bytes = [0u8; ROOM];
-    let mut k = 0;
-    while k < 64 {
+    for k in 0..64 {
         bytes[k] = if function == 33 {
             natural[k]
         } else {
             (places[k] % 0x100) as u8
         };
-        k += 1;
     }
     Answer {
         status: 0,

@@ -16,8 +16,7 @@ fn record(status: u32, block: QuantizedBlock) -> Answer {
 
 // The status; 99, which no record has, where a record does not carry the table handed over.
 fn with_table(status: u32, divisors: &[u8; 64], quant: &[u8]) -> u32 {
-    let held: &[u8] = divisors;
-    if check::same(held, quant) {
+    if divisors.as_slice() == quant {
         return status;
     }
     99

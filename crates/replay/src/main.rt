@@ -1,5 +1,6 @@
-// Runs the answers of the oracle and its harness, the files of data/, through the exported functions, and prints for each file how many
-// records it holds and how many of them differ.
+// Runs the answers of the oracle and its harness, the files of data/, through the exported functions,
+// and prints for each file how many records it holds and how many of them differ. A file that cannot
+// be read, or a write that fails, is `main`'s error.
 
 #![tactic(auto)]
 
@@ -14,8 +15,60 @@ mod islow_cases;
 mod scaling_cases;
 mod wrapping_cases;
 
+ghost use Rattle.std.specs.Prelude.{IfOk, ◌≤◌, length};
+
 use crate::decode::{Part, ROOM};
-use libc::STDOUT_FILENO;
+use std::fs::File;
+use std::io;
+use std::io::Read;
+use std::rt::Files;
+
+// In the order of answer.rt's numbers. The last file has records of islow_block, and the answer of one
+// is wrong at one place: its line shows that a difference is seen.
+const NAMES: [&str; 42] = [
+    "wrapping_add_i32",
+    "wrapping_sub_i32",
+    "wrapping_mul_i32",
+    "wrapping_add_i64",
+    "wrapping_sub_i64",
+    "wrapping_mul_i64",
+    "descale",
+    "islow_dc",
+    "sample_u8",
+    "sample_centered",
+    "sample_12bit",
+    "islow_1d",
+    "islow_1d_4",
+    "islow_1d_2",
+    "islow_gain_bounds",
+    "islow_1d_i64",
+    "islow_1d_4_i64",
+    "islow_1d_2_i64",
+    "islow_pass1",
+    "islow_pass2",
+    "islow_column",
+    "islow_row",
+    "islow_block",
+    "islow_block_i32",
+    "islow_block_top_half",
+    "islow_block_top_half_i32",
+    "islow_block_4x4",
+    "islow_block_2x2",
+    "islow_block_12bit",
+    "islow_block_12bit_4x4",
+    "islow_block_12bit_2x2",
+    "fdct_quantize",
+    "fdct_quantize_coefficient",
+    "zigzag",
+    "natural_to_zigzag",
+    "dequantize",
+    "screen",
+    "same",
+    "quantization_divisors",
+    "transform_fdct_quantize",
+    "transform_fdct_quantize_handed",
+    "deliberately_wrong",
+];
 
 // A file starts with this many bytes of text.
 const HEADER: usize = 256;
@@ -30,91 +83,81 @@ enum Turn {
     End,
 }
 
-fn read(fd: i32, size: usize) -> Part {
+// Reads until the room is full or the file ends, and answers how many bytes there were.
+fn read_full(file: &mut impl Read, room: &mut [u8]) -> io::Result<usize>
+    ensures { IfOk result (λ got. got ≤ length room.new) }
+{
+    let mut got = 0;
+    while got < room.len() {
+        let n = file.read(&mut room[got..])?;
+        if n == 0 {
+            break;
+        }
+        got += n;
+    }
+    Ok(got)
+}
+
+fn read(file: &mut impl Read, size: usize) -> io::Result<Part> {
     let mut bytes = [0u8; ROOM];
     if size > ROOM {
-        return Part { bytes, got: 0 };
+        return Ok(Part { bytes, got: 0 });
     }
-    let got = io::read_full(fd, &mut bytes[..size]);
-    Part { bytes, got }
+    let got = read_full(file, &mut bytes[..size])?;
+    Ok(Part { bytes, got })
 }
 
-// Runs the function on the inputs of a file's next record, and reads the recorded answer only then. A record that is cut short differs.
-fn next(fd: i32, function: usize) -> Turn {
-    let inputs = read(fd, crate::answer::inputs(function));
-    let case = inputs.bytes;
-    let answer = crate::answer::answer(function, &case);
-    let recorded = read(fd, answer.size);
+// Runs the function on the inputs of a file's next record, and reads the recorded answer only then. A
+// record that is cut short differs.
+fn next(file: &mut impl Read, function: usize) -> io::Result<Turn> {
+    let inputs = read(file, crate::answer::inputs(function))?;
+    let answer = crate::answer::answer(function, &inputs.bytes);
+    let recorded = read(file, answer.size)?;
     if inputs.got == 0 && recorded.got == 0 {
-        return Turn::End;
+        return Ok(Turn::End);
     }
     if crate::compare::agrees(recorded, answer) {
-        Turn::Same
+        Ok(Turn::Same)
     } else {
-        Turn::Different
+        Ok(Turn::Different)
     }
 }
 
-fn report(name: &[u8], cases: u64, differences: u64) {
-    io::write_all(STDOUT_FILENO, name);
-    io::write_all(STDOUT_FILENO, b" ");
-    io::print_decimal(STDOUT_FILENO, cases);
-    io::write_all(STDOUT_FILENO, b" cases ");
-    io::print_decimal(STDOUT_FILENO, differences);
-    io::write_all(STDOUT_FILENO, b" differences\n");
+fn report(rt: &impl Print, name: &str, cases: u64, differences: u64) -> io::Result<()> {
+    println!(rt; "{name} {cases} cases {differences} differences")
 }
 
 // Runs the records of an opened file, and says how many there are and how many differ.
-fn count(name: &[u8], fd: i32, function: usize) {
+fn count(rt: &impl Print, name: &str, file: &mut impl Read, function: usize) -> io::Result<()> {
     let mut cases: u64 = 0;
     let mut differences: u64 = 0;
-    while cases < MOST {
-        match next(fd, function) {
+    for _ in 0..MOST {
+        match next(file, function)? {
             Turn::Same => {}
             Turn::Different => differences += 1,
             Turn::End => break,
         }
         cases += 1;
     }
-    report(name, cases, differences);
+    report(rt, name, cases, differences)
 }
 
-// The file of a function has its name. One that cannot be read has no records.
-fn replay(name: &[u8], function: usize) {
-    let fd = os::open_read(name);
-    if fd < 0 {
-        os::fail(name);
-    }
+// The file of a function has its name.
+fn replay(rt: &(impl Files + Print), name: &str, function: usize) -> io::Result<()> {
+    let mut file = File::open(rt, name)?;
     let mut header = [0u8; HEADER];
-    io::read_full(fd, &mut header);
-    count(name, fd, function);
-    libc::close(fd);
+    read_full(&mut file, &mut header)?;
+    count(rt, name, &mut file, function)
 }
 
-// The functions are numbered in the order of the names, each of which a blank ends.
-fn replay_each(names: &[u8]) {
-    let mut function = 0;
-    let mut start = 0;
-    while start < names.len() {
-        let end = bytes::scan::find(names, start, names.len(), b' ');
-        replay(&names[start..end], function);
-        function += 1;
-        start = end + 1;
+// The functions are numbered in the order of the names.
+fn replay_each(rt: &(impl Files + Print), names: &[&str]) -> io::Result<()> {
+    for (function, name) in names.iter().enumerate() {
+        replay(rt, name, function)?;
     }
+    Ok(())
 }
 
-// In the order of answer.rt's numbers. The last file has records of islow_block, and the answer of one is wrong at one place: its line
-// shows that a difference is seen.
-fn main() {
-    replay_each(
-        b"wrapping_add_i32 wrapping_sub_i32 wrapping_mul_i32 wrapping_add_i64 wrapping_sub_i64 \
-          wrapping_mul_i64 descale islow_dc sample_u8 sample_centered sample_12bit islow_1d \
-          islow_1d_4 islow_1d_2 islow_gain_bounds islow_1d_i64 islow_1d_4_i64 islow_1d_2_i64 \
-          islow_pass1 islow_pass2 islow_column islow_row islow_block islow_block_i32 \
-          islow_block_top_half islow_block_top_half_i32 islow_block_4x4 islow_block_2x2 \
-          islow_block_12bit islow_block_12bit_4x4 islow_block_12bit_2x2 fdct_quantize \
-          fdct_quantize_coefficient zigzag natural_to_zigzag dequantize screen same \
-          quantization_divisors transform_fdct_quantize transform_fdct_quantize_handed \
-          deliberately_wrong ",
-    );
+fn main(rt: HostRuntime) -> io::Result<()> {
+    replay_each(&rt, &NAMES)
 }
