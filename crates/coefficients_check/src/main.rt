@@ -10,15 +10,15 @@ ghost use Rattle.std.specs.Prelude.{◌≤◌, ◌≡◌, length};
 
 use coefficient_text::{Printed, TEXT, coefficient_text};
 use std::fs::File;
-use std::io::Read;
 use std::rt::{Env, Files};
 use std::{env, io};
+use streams::read_full;
 
 // One place more than an output has, and a newline.
 const ROOM: usize = 450;
 
 // The most bytes that are read of a file.
-const INPUT: u64 = 4096;
+const INPUT: usize = 4096;
 
 fn text(rt: &impl Print, bytes: &[u8]) -> io::Result<()> {
     rt.write_all(bytes)
@@ -52,21 +52,22 @@ fn answer(rt: &impl Print, input: &[u8], places: usize) -> io::Result<()>
     report(rt, got, &room)
 }
 
-// A file that cannot be opened has no byte, and the line says so.
-fn case(rt: &(impl Files + Print + Alloc), name: &str, places: usize) -> io::Result<()>
+// A file that cannot be read has no byte, and the line says so.
+fn case(rt: &(impl Files + Print), name: &str, places: usize) -> io::Result<()>
     requires { places ≤ 449 }
 {
-    let mut input = Vec::new(rt.alloc());
-    if let Ok(file) = File::open(rt, name) {
-        file.take(INPUT).read_to_end(&mut input)?;
-    }
+    let mut input = [0u8; INPUT];
+    let got = match File::open(rt, name) {
+        Ok(mut file) => read_full(&mut file, &mut input),
+        Err(_) => 0,
+    };
     text(rt, name.as_bytes())?;
-    number(rt, input.len())?;
+    number(rt, got)?;
     number(rt, places)?;
-    answer(rt, &input, places)
+    answer(rt, &input[..got], places)
 }
 
-fn named(rt: &(impl Files + Print + Alloc), name: &str) -> io::Result<()> {
+fn named(rt: &(impl Files + Print), name: &str) -> io::Result<()> {
     case(rt, name, TEXT)
 }
 

@@ -4,7 +4,8 @@
 //
 // The picture is held whole, so it has at most as many bytes as `ROOM`, header and all; of a larger
 // one, or a raster that is too short, it says `refused 10` on standard error, and `refused 8` of
-// another width or height. A read or a write that fails is `main`'s error.
+// another width or height. A failed read counts as the end of the input; a write that fails is
+// `main`'s error.
 
 #![tactic(auto)]
 
@@ -13,9 +14,9 @@ ghost use Rattle.std.specs.Prelude.{◌≤◌};
 use fewest::{Found, fewest_coefficients};
 use pgm::{Answer, header_of};
 use std::io;
-use std::io::Read;
+use streams::read_full;
 
-const ROOM: u64 = 131072;
+const ROOM: usize = 131072;
 
 const K1: [u8; 64] = [
     16, 11, 10, 16, 24, 40, 51, 61, 12, 12, 14, 19, 26, 58, 60, 55, 14, 13, 16, 24, 40, 57, 69, 56,
@@ -95,7 +96,7 @@ fn show_picture(rt: &(impl Print + Eprint), bytes: &[u8], base: &[u8; 64]) -> io
 }
 
 fn main(rt: HostRuntime) -> io::Result<()> {
-    let mut bytes = Vec::new(rt.alloc());
-    rt.reader().take(ROOM).read_to_end(&mut bytes)?;
-    show_picture(&rt, &bytes, &K1)
+    let mut bytes = [0u8; ROOM];
+    let n = read_full(&mut rt.reader(), &mut bytes);
+    show_picture(&rt, &bytes[..n], &K1)
 }

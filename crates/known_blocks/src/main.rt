@@ -10,11 +10,11 @@ mod show;
 
 use std::fs::File;
 use std::io;
-use std::io::Read;
 use std::rt::Files;
+use streams::{fail, read_full};
 
 // The most bytes that are read of a file.
-const CASES: u64 = 4096;
+const CASES: usize = 4096;
 
 fn answer(rt: &impl Print, name: &str, function: usize, line: &[u8]) -> io::Result<()> {
     print!(rt; "{name} ")?;
@@ -38,11 +38,20 @@ fn run_each(rt: &impl Print, name: &str, function: usize, lines: &[u8]) -> io::R
     Ok(())
 }
 
-// The file of a function has its name.
-fn run_file(rt: &(impl Files + Print + Alloc), name: &str, function: usize) -> io::Result<()> {
-    let mut lines = Vec::new(rt.alloc());
-    File::open(rt, name)?.take(CASES).read_to_end(&mut lines)?;
-    run_each(rt, name, function, &lines)
+// The file of a function has its name. Where it cannot be read there are no cases.
+fn run_file(
+    rt: &(impl Files + Print + Eprint + Alloc),
+    name: &str,
+    function: usize,
+) -> io::Result<()> {
+    let mut lines = [0u8; CASES];
+    match File::open(rt, name) {
+        Ok(mut file) => {
+            let got = read_full(&mut file, &mut lines);
+            run_each(rt, name, function, &lines[..got])
+        }
+        Err(error) => fail(rt, name, &error),
+    }
 }
 
 // A file and its function's number in call.rt.

@@ -14,7 +14,7 @@ use fdct::fdct_quantize;
 use fdct_f64::{fdct_values, quantization_divisors};
 use guarded_record::fdct_quantize_record;
 use std::io;
-use std::io::Read;
+use streams::read_full;
 use transform::binary64::near_half;
 use zigzag::zigzag;
 
@@ -80,7 +80,8 @@ fn main(rt: HostRuntime) -> io::Result<()> {
     let mut block = [0u8; 64];
     let mut quant = [0u8; 64];
     for _ in 0..MOST {
-        if input.read_exact(&mut block).is_err() || input.read_exact(&mut quant).is_err() {
+        read_full(&mut input, &mut block);
+        if read_full(&mut input, &mut quant) != 64 {
             break;
         }
         guards += guards_of(&block, &quant);

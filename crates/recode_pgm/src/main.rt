@@ -1,7 +1,7 @@
 // Reads a grey picture (Netpbm PGM, P5 with maxval 255) from standard input, codes it with divisor 1,
 // decodes it and writes it to standard output, one strip of eight rows at a time (document 02,
-// card 2). A refusal goes to standard error as `refused` and its number. A write that fails is
-// `main`'s error, and ends it.
+// card 2). A refusal goes to standard error as `refused` and its number. Where the picture cannot be
+// written, it says why on standard error and ends, and its exit status is 0 all the same.
 //
 // The header is read byte by byte and each strip to its length, so no byte behind the raster is read.
 // Of the picture no more than a strip is held.
@@ -17,6 +17,7 @@ ghost use Rattle.plane.specs.Strips.{strip_rows};
 use pgm::{Answer, LIMIT, Reader, Step};
 use std::io;
 use std::io::Read;
+use streams::{fail, read_full};
 use strip::recode_strip;
 
 // Eight rows of the greatest width.
@@ -34,7 +35,7 @@ fn read_header(input: &mut impl Read) -> Answer
     let mut reader = Reader::new();
     for _ in 0..LIMIT {
         let mut byte = [0u8; 1];
-        if input.read_exact(&mut byte).is_err() {
+        if read_full(input, &mut byte) == 0 {
             return Answer::Refused(10);
         }
         match reader.step(byte[0]) {
@@ -49,8 +50,11 @@ fn write_header(rt: &impl Print, width: usize, height: usize) -> io::Result<()> 
     println!(rt; "P5\n{width} {height}\n255")
 }
 
-// Reads a strip, recodes it and writes it. Where the raster ends before, or a read fails, it says so
-// and answers false.
+fn write_failed(rt: &(impl Eprint + Alloc), error: &io::Error) -> io::Result<()> {
+    fail(rt, "recode_pgm: standard output", error)
+}
+
+// Reads a strip, recodes it and writes it. Where the raster ends before, it says so and answers false.
 fn copy_strip(
     rt: &(impl Print + Eprint),
     input: &mut impl Read,
@@ -63,7 +67,7 @@ fn copy_strip(
     requires le_rows { (1 ≤ rows) × (rows ≤ 8) }
     requires samples_len { (length samples.old ≡ width * rows) × (length out.old ≡ width * rows) }
 {
-    if input.read_exact(samples).is_err() {
+    if read_full(input, samples) < samples.len() {
         refuse(rt, 10)?;
         return Ok(false);
     }
@@ -117,7 +121,8 @@ fn copy_raster(
     Ok(())
 }
 
-fn main(rt: HostRuntime) -> io::Result<()> {
+// Of standard input. Its error is that of a write.
+fn copy_picture(rt: &(impl Input + Print + Eprint)) -> io::Result<()> {
     let mut input = rt.reader();
     match read_header(&mut input) {
         Answer::Header {
@@ -125,9 +130,16 @@ fn main(rt: HostRuntime) -> io::Result<()> {
             height,
             length: _,
         } => {
-            write_header(&rt, width, height)?;
-            copy_raster(&rt, &mut input, width, height)
+            write_header(rt, width, height)?;
+            copy_raster(rt, &mut input, width, height)
         }
-        Answer::Refused(number) => refuse(&rt, number),
+        Answer::Refused(number) => refuse(rt, number),
+    }
+}
+
+fn main(rt: HostRuntime) -> io::Result<()> {
+    match copy_picture(&rt) {
+        Ok(()) => Ok(()),
+        Err(error) => write_failed(&rt, &error),
     }
 }

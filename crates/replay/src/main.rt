@@ -1,6 +1,6 @@
 // Runs the answers of the oracle and its harness, the files of data/, through the exported functions,
-// and prints for each file how many records it holds and how many of them differ. A file that cannot
-// be read, or a write that fails, is `main`'s error.
+// and prints for each file how many records it holds and how many of them differ. A write that fails
+// is `main`'s error.
 
 #![tactic(auto)]
 
@@ -15,13 +15,12 @@ mod islow_cases;
 mod scaling_cases;
 mod wrapping_cases;
 
-ghost use Rattle.std.specs.Prelude.{IfOk, ◌≤◌, length};
-
 use crate::decode::{Part, ROOM};
 use std::fs::File;
 use std::io;
 use std::io::Read;
 use std::rt::Files;
+use streams::{fail, read_full};
 
 // In the order of answer.rt's numbers. The last file has records of islow_block, and the answer of one
 // is wrong at one place: its line shows that a difference is seen.
@@ -83,43 +82,28 @@ enum Turn {
     End,
 }
 
-// Reads until the room is full or the file ends, and answers how many bytes there were.
-fn read_full(file: &mut impl Read, room: &mut [u8]) -> io::Result<usize>
-    ensures { IfOk result (λ got. got ≤ length room.new) }
-{
-    let mut got = 0;
-    while got < room.len() {
-        let n = file.read(&mut room[got..])?;
-        if n == 0 {
-            break;
-        }
-        got += n;
-    }
-    Ok(got)
-}
-
-fn read(file: &mut impl Read, size: usize) -> io::Result<Part> {
+fn read(file: &mut impl Read, size: usize) -> Part {
     let mut bytes = [0u8; ROOM];
     if size > ROOM {
-        return Ok(Part { bytes, got: 0 });
+        return Part { bytes, got: 0 };
     }
-    let got = read_full(file, &mut bytes[..size])?;
-    Ok(Part { bytes, got })
+    let got = read_full(file, &mut bytes[..size]);
+    Part { bytes, got }
 }
 
 // Runs the function on the inputs of a file's next record, and reads the recorded answer only then. A
 // record that is cut short differs.
-fn next(file: &mut impl Read, function: usize) -> io::Result<Turn> {
-    let inputs = read(file, crate::answer::inputs(function))?;
+fn next(file: &mut impl Read, function: usize) -> Turn {
+    let inputs = read(file, crate::answer::inputs(function));
     let answer = crate::answer::answer(function, &inputs.bytes);
-    let recorded = read(file, answer.size)?;
+    let recorded = read(file, answer.size);
     if inputs.got == 0 && recorded.got == 0 {
-        return Ok(Turn::End);
+        return Turn::End;
     }
     if crate::compare::agrees(recorded, answer) {
-        Ok(Turn::Same)
+        Turn::Same
     } else {
-        Ok(Turn::Different)
+        Turn::Different
     }
 }
 
@@ -132,7 +116,7 @@ fn count(rt: &impl Print, name: &str, file: &mut impl Read, function: usize) -> 
     let mut cases: u64 = 0;
     let mut differences: u64 = 0;
     for _ in 0..MOST {
-        match next(file, function)? {
+        match next(file, function) {
             Turn::Same => {}
             Turn::Different => differences += 1,
             Turn::End => break,
@@ -142,16 +126,27 @@ fn count(rt: &impl Print, name: &str, file: &mut impl Read, function: usize) -> 
     report(rt, name, cases, differences)
 }
 
-// The file of a function has its name.
-fn replay(rt: &(impl Files + Print), name: &str, function: usize) -> io::Result<()> {
-    let mut file = File::open(rt, name)?;
-    let mut header = [0u8; HEADER];
-    read_full(&mut file, &mut header)?;
-    count(rt, name, &mut file, function)
+// The file of a function has its name. One that cannot be read has no records.
+fn replay(
+    rt: &(impl Files + Print + Eprint + Alloc),
+    name: &str,
+    function: usize,
+) -> io::Result<()> {
+    match File::open(rt, name) {
+        Ok(mut file) => {
+            let mut header = [0u8; HEADER];
+            read_full(&mut file, &mut header);
+            count(rt, name, &mut file, function)
+        }
+        Err(error) => {
+            fail(rt, name, &error)?;
+            report(rt, name, 0, 0)
+        }
+    }
 }
 
 // The functions are numbered in the order of the names.
-fn replay_each(rt: &(impl Files + Print), names: &[&str]) -> io::Result<()> {
+fn replay_each(rt: &(impl Files + Print + Eprint + Alloc), names: &[&str]) -> io::Result<()> {
     for (function, name) in names.iter().enumerate() {
         replay(rt, name, function)?;
     }
