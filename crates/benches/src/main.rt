@@ -1,7 +1,7 @@
 // A worked history of the bench queue (document 02, card 11): three benches, each with a table and
 // samples of its own. Every block that a turn lists is coded by the block entry on what its bench
 // lends. Prints each call with its status, each coded block with four of its coefficients, those of
-// u and v 0 and 1. A write that fails is `main`'s error.
+// u and v 0 and 1. What cannot be written is left out: the exit status is 0 all the same.
 
 #![tactic(auto)]
 
@@ -121,21 +121,25 @@ fn made(rt: &impl Print, benches: u32) -> io::Result<BenchQueue> {
     Ok(new.state)
 }
 
-fn main(rt: HostRuntime) -> io::Result<()> {
-    let q = made(&rt, 3)?;
-    let q = deposit(&rt, q, 0, 2)?;
-    let q = deposit(&rt, q, 2, 1)?;
-    let q = turn(&rt, q, 2, 4096)?;
-    let q = deposit(&rt, q, 1, 1)?;
-    report(&rt, q)?;
-    let q = turn(&rt, q, 5000, 4096)?;
-    let q = deposit(&rt, q, 3, 1)?;
-    let q = deposit(&rt, q, 2, 65535)?;
-    let q = deposit(&rt, q, 2, 1)?;
-    let q = turn(&rt, q, 0, 4096)?;
-    let q = turn(&rt, q, 1, 4095)?;
-    report(&rt, q)?;
-    let q = made(&rt, 9)?;
-    let q = turn(&rt, q, 1, 4095)?;
-    report(&rt, q)
+fn history(rt: &impl Print) -> io::Result<()> {
+    let q = made(rt, 3)?;
+    let q = deposit(rt, q, 0, 2)?;
+    let q = deposit(rt, q, 2, 1)?;
+    let q = turn(rt, q, 2, 4096)?;
+    let q = deposit(rt, q, 1, 1)?;
+    report(rt, q)?;
+    let q = turn(rt, q, 5000, 4096)?;
+    let q = deposit(rt, q, 3, 1)?;
+    let q = deposit(rt, q, 2, 65535)?;
+    let q = deposit(rt, q, 2, 1)?;
+    let q = turn(rt, q, 0, 4096)?;
+    let q = turn(rt, q, 1, 4095)?;
+    report(rt, q)?;
+    let q = made(rt, 9)?;
+    let q = turn(rt, q, 1, 4095)?;
+    report(rt, q)
+}
+
+fn main(rt: HostRuntime) {
+    let _ = history(&rt);
 }

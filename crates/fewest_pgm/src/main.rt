@@ -4,8 +4,8 @@
 //
 // The picture is held whole, so it has at most as many bytes as `ROOM`, header and all; of a larger
 // one, or a raster that is too short, it says `refused 10` on standard error, and `refused 8` of
-// another width or height. A failed read counts as the end of the input; a write that fails is
-// `main`'s error.
+// another width or height. A failed read counts as the end of the input. What cannot be written is
+// left out: the exit status is 0 all the same.
 
 #![tactic(auto)]
 
@@ -95,8 +95,8 @@ fn show_picture(rt: &(impl Print + Eprint), bytes: &[u8], base: &[u8; 64]) -> io
     }
 }
 
-fn main(rt: HostRuntime) -> io::Result<()> {
+fn main(rt: HostRuntime) {
     let mut bytes = [0u8; ROOM];
     let n = read_full(&mut rt.reader(), &mut bytes);
-    show_picture(&rt, &bytes[..n], &K1)
+    let _ = show_picture(&rt, &bytes[..n], &K1);
 }

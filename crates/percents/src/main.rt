@@ -1,6 +1,6 @@
 // Prints T.81's table K.1 (luminance) by percent (document 02, card 6): at 1, 50, 100 and 200 percent
 // the 64 divisors, eight lines, one for each v, eight numbers by rising u; at 0 and 201 percent the
-// refusal. A write that fails is `main`'s error.
+// refusal. What cannot be written is left out: the exit status is 0 all the same.
 
 #![tactic(auto)]
 
@@ -51,6 +51,6 @@ fn print_tables(rt: &impl Print, base: &[u8; 64]) -> io::Result<()> {
     print_table(rt, base, 201)
 }
 
-fn main(rt: HostRuntime) -> io::Result<()> {
-    print_tables(&rt, &K1)
+fn main(rt: HostRuntime) {
+    let _ = print_tables(&rt, &K1);
 }
