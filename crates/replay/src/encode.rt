@@ -40,7 +40,7 @@ pub fn bits_i32(x: i32) -> u64 {
 
 // 0 for a NaN, which no recorded answer is.
 fn bits_f64(x: f64) -> u64 {
-    if x != x {
+    if x.is_nan() {
         return 0;
     }
     f64::to_bits(x)
