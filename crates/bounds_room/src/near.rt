@@ -8,7 +8,8 @@ use std::io;
 
 const PLACE: usize = 8 * Y + X;
 
-// Where the basis integers of a frequency hold that of the place, whose row is mirrored: leaf 3, without its sign.
+// Where the basis integers of a frequency hold that of the place, whose row is mirrored: leaf 3,
+// without its sign.
 const ENTRY: usize = 4 * (7 - Y) + X;
 
 // The absolute value of a basis integer.
@@ -26,7 +27,8 @@ fn weighted_basis(quant: &[u8; 64]) -> u64 {
     total
 }
 
-// The block's coefficients, dequantized and handed to the inverse: the sample that comes back. A refusal leaves 0.
+// The block's coefficients, dequantized and handed to the inverse: the sample that comes back. A
+// refusal leaves 0.
 fn sample_back(block: &[u8; 64], quant: &[u8; 64]) -> u8 {
     let mut coefficients_a = [0i16; 64];
     let mut coefficients_b = [0i16; 64];

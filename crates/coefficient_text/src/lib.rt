@@ -1,7 +1,7 @@
 // The text of a block's coefficients (document 01, "Added by design"; Netpbm PGM).
 //
-// Input of 75 bytes, the header and 64 samples, gives eight lines of eight numbers: the canonical coefficients for quantizer 1.
-// Any other input gives the line `refused 7`.
+// Input of 75 bytes, the header and 64 samples, gives eight lines of eight numbers: the canonical
+// coefficients for quantizer 1. Any other input gives the line `refused 7`.
 
 #![tactic(auto)]
 
@@ -18,7 +18,8 @@ use fdct::fdct_quantize;
 // Places of an output.
 pub const TEXT: usize = LINES;
 
-// What `coefficient_text` answers: 0 or a refusal's number, and how many bytes of text stand at the start of the output.
+// What `coefficient_text` answers: 0 or a refusal's number, and how many bytes of text stand at the
+// start of the output.
 #[derive(Clone, Copy)]
 pub struct Printed {
     pub status: u32,
@@ -31,7 +32,8 @@ fn is_accepted(input: &[u8]) -> bool
     input.len() == 75 && input.starts_with(b"P5\n8 8\n255\n")
 }
 
-// Input that is not accepted has a text too, the line `refused 7`: the number is the program's, and this call has a result.
+// Input that is not accepted has a text too, the line `refused 7`: the number is the program's, and
+// this call has a result.
 pub fn coefficient_text(input: &[u8], out: &mut [u8]) -> Printed
     ensures value { result ≡ printed input.now out.old }
     ensures out_after { out.new ≡ written result.status (placed input.now out.old) out.old }

@@ -166,7 +166,8 @@ fn guarded(rt: &impl Print, samples: &[u8], v: &[u64; MOST]) -> io::Result<()> {
     )
 }
 
-// A sample replaced: number k is its place, and the next one its value. A value 0, as where a line ends before, replaces nothing.
+// A sample replaced: number k is its place, and the next one its value. A value 0, as where a line
+// ends before, replaces nothing.
 fn replaced(mut samples: [u8; ROOM], v: &[u64; MOST], k: usize) -> [u8; ROOM]
     requires { k < 19 }
 {
@@ -234,7 +235,8 @@ fn same(rt: &impl Print, input: &[i16], v: &[u64; MOST]) -> io::Result<()> {
     answer(rt, stored_blocks::same(input, part_i16(&other, v, 5)))
 }
 
-// An 8-bit block may have a second entry, behind its other numbers. A value 0, as where a line ends before, is none.
+// An 8-bit block may have a second entry, behind its other numbers. A value 0, as where a line ends
+// before, is none.
 fn second(function: usize, mut room: [i16; ROOM], v: &[u64; MOST]) -> [i16; ROOM] {
     let value = i16_at(v, 7);
     if function < 8 && value != 0 {

@@ -1,6 +1,6 @@
 // Prints what the exported functions give at known places, one fact a line: the ends of what a
-// function takes, refusals, and the differences from the Rust. The cases of a function are the lines
-// of its file in data/.
+// function takes, refusals, and the differences from the Rust. The cases of a function are the
+// lines of its file in data/.
 
 #![tactic(auto)]
 

@@ -1,10 +1,10 @@
-// The guarded quantizer and the canonical one over blocks that have a value near a half (document 02,
-// card 10): 300 of the harness with one inside the guard, and 300 with one less than four times as
-// far, outside of it (oracle/guarded.rs). Prints how many blocks and coefficients there were, at how
-// many coefficients the guard was taken, and at how many the two quantizers differ.
+// The guarded quantizer and the canonical one over blocks that have a value near a half (document
+// 02, card 10): 300 of the harness with one inside the guard, and 300 with one less than four times
+// as far, outside of it (oracle/guarded.rs). Prints how many blocks and coefficients there were, at
+// how many coefficients the guard was taken, and at how many the two quantizers differ.
 //
-// Standard input has 64 samples and 64 quantizers for each block. A failed read counts as the end; a
-// write that fails is `main`'s error.
+// Standard input has 64 samples and 64 quantizers for each block. A failed read counts as the end;
+// a write that fails is `main`'s error.
 
 #![tactic(auto)]
 

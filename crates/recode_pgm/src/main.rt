@@ -1,10 +1,10 @@
-// Reads a grey picture (Netpbm PGM, P5 with maxval 255) from standard input, codes it with divisor 1,
-// decodes it and writes it to standard output, one strip of eight rows at a time (document 02,
-// card 2). A refusal goes to standard error as `refused` and its number. Where the picture cannot be
-// written, it says why on standard error and ends, and its exit status is 0 all the same.
+// Reads a grey picture (Netpbm PGM, P5 with maxval 255) from standard input, codes it with divisor
+// 1, decodes it and writes it to standard output, one strip of eight rows at a time (document 02,
+// card 2). A refusal goes to standard error as `refused` and its number. Where the picture cannot
+// be written, it says why on standard error and ends, and its exit status is 0 all the same.
 //
-// The header is read byte by byte and each strip to its length, so no byte behind the raster is read.
-// Of the picture no more than a strip is held.
+// The header is read byte by byte and each strip to its length, so no byte behind the raster is
+// read. Of the picture no more than a strip is held.
 
 #![tactic(auto)]
 
@@ -54,7 +54,8 @@ fn write_failed(rt: &(impl Eprint + Alloc), error: &io::Error) -> io::Result<()>
     fail(rt, "recode_pgm: standard output", error)
 }
 
-// Reads a strip, recodes it and writes it. Where the raster ends before, it says so and answers false.
+// Reads a strip, recodes it and writes it. Where the raster ends before, it says so and answers
+// false.
 fn copy_strip(
     rt: &(impl Print + Eprint),
     input: &mut impl Read,

@@ -1,4 +1,5 @@
-// A function's answer as a record has it: little-endian numbers. What makes it is handed no recorded answer.
+// A function's answer as a record has it: little-endian numbers. What makes it is handed no
+// recorded answer.
 ghost use Rattle.std.specs.Prelude.{◌+◌, ◌≤◌, ◌<◌, length};
 
 use crate::decode::ROOM;

@@ -1,4 +1,5 @@
-// The forward entries: 64 samples and what quantizes them; the coefficients. And the two tables of zigzag order.
+// The forward entries: 64 samples and what quantizes them; the coefficients. And the two tables of
+// zigzag order.
 use crate::decode::{ROOM, bytes, wide};
 use crate::encode::{Answer, bits_i16, number, put_i16};
 

@@ -1,6 +1,6 @@
-// Runs the answers of the oracle and its harness, the files of data/, through the exported functions,
-// and prints for each file how many records it holds and how many of them differ. A write that fails
-// is `main`'s error.
+// Runs the answers of the oracle and its harness, the files of data/, through the exported
+// functions, and prints for each file how many records it holds and how many of them differ. A
+// write that fails is `main`'s error.
 
 #![tactic(auto)]
 
@@ -22,8 +22,8 @@ use std::io::Read;
 use std::rt::Files;
 use streams::{fail, read_full};
 
-// In the order of answer.rt's numbers. The last file has records of islow_block, and the answer of one
-// is wrong at one place: its line shows that a difference is seen.
+// In the order of answer.rt's numbers. The last file has records of islow_block, and the answer of
+// one is wrong at one place: its line shows that a difference is seen.
 const NAMES: [&str; 42] = [
     "wrapping_add_i32",
     "wrapping_sub_i32",
@@ -91,8 +91,8 @@ fn read(file: &mut impl Read, size: usize) -> Part {
     Part { bytes, got }
 }
 
-// Runs the function on the inputs of a file's next record, and reads the recorded answer only then. A
-// record that is cut short differs.
+// Runs the function on the inputs of a file's next record, and reads the recorded answer only then.
+// A record that is cut short differs.
 fn next(file: &mut impl Read, function: usize) -> Turn {
     let inputs = read(file, crate::answer::inputs(function));
     let answer = crate::answer::answer(function, &inputs.bytes);
