@@ -3,14 +3,13 @@ use crate::exact::{apart, plus_product};
 use crate::found::{FIRST, SECOND, TABLE};
 use crate::print::item;
 use round_trip::round_trip;
+use std::io;
 
 fn squared_differences(a: &[u8; 64], b: &[u8; 64]) -> u64 {
     let mut total = 0;
-    let mut i = 0;
-    while i < 64 {
-        let difference = apart(a[i], b[i]);
+    for (x, y) in a.iter().zip(b) {
+        let difference = apart(*x, *y);
         total = plus_product(total, difference, difference);
-        i += 1;
     }
     total
 }
@@ -36,20 +35,24 @@ fn same_coefficients(a: &[u8; 64], b: &[u8; 64], quant: &[u8; 64]) -> bool {
     got.yes
 }
 
-// Blocks whose coefficients differ say nothing of the bound: no line. Apart from `report`, whose proof alone carries the tables.
-fn compared(a: &[u8; 64], b: &[u8; 64], quant: &[u8; 64]) {
+// Blocks whose coefficients differ say nothing of the bound: no line. Apart from `report`, whose
+// proof alone carries the tables.
+fn compared(rt: &impl Print, a: &[u8; 64], b: &[u8; 64], quant: &[u8; 64]) -> io::Result<()> {
     if same_coefficients(a, b, quant) {
         item(
-            b"equal coefficients: yes; squared differences ",
+            rt,
+            "equal coefficients: yes; squared differences ",
             squared_differences(a, b),
-        );
+        )?;
         item(
-            b", squared divisors ",
+            rt,
+            ", squared divisors ",
             squared_differences(quant, &[0u8; 64]),
-        );
+        )?;
     }
+    Ok(())
 }
 
-pub fn report() {
-    compared(&FIRST, &SECOND, &TABLE);
+pub fn report(rt: &impl Print) -> io::Result<()> {
+    compared(rt, &FIRST, &SECOND, &TABLE)
 }

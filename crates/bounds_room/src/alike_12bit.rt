@@ -3,14 +3,13 @@ use crate::exact::{apart_u16, plus_product};
 use crate::found_12bit::{FIRST, SECOND, TABLE};
 use crate::print::item;
 use round_trip::twelve_bit::compare_12bit;
+use std::io;
 
 fn squared_differences(a: &[u16; 64], b: &[u16; 64]) -> u64 {
     let mut total = 0;
-    let mut i = 0;
-    while i < 64 {
-        let difference = apart_u16(a[i], b[i]);
+    for (x, y) in a.iter().zip(b) {
+        let difference = apart_u16(*x, *y);
         total = plus_product(total, difference, difference);
-        i += 1;
     }
     total
 }
@@ -22,32 +21,38 @@ fn same_coefficients(a: &[u16; 64], b: &[u16; 64], quant: &[u16; 64]) -> bool {
     got.yes
 }
 
-fn line(differences: u64, divisors: u64) {
+fn line(rt: &impl Print, differences: u64, divisors: u64) -> io::Result<()> {
     item(
-        b"\n12 bits, equal coefficients: yes; squared differences ",
+        rt,
+        "\n12 bits, equal coefficients: yes; squared differences ",
         differences,
-    );
-    item(b", squared divisors ", divisors);
+    )?;
+    item(rt, ", squared divisors ", divisors)?;
     item(
-        b"; (2^23 - 1) times the one ",
+        rt,
+        "; (2^23 - 1) times the one ",
         plus_product(0, 0x7f_ffff, differences),
-    );
+    )?;
     item(
-        b", 2^23 times the other ",
+        rt,
+        ", 2^23 times the other ",
         plus_product(0, 0x80_0000, divisors),
-    );
+    )
 }
 
-// Blocks whose coefficients differ say nothing of the bound: no line. Apart from `report`, whose proof alone carries the tables.
-fn compared(a: &[u16; 64], b: &[u16; 64], quant: &[u16; 64]) {
+// Blocks whose coefficients differ say nothing of the bound: no line. Apart from `report`, whose
+// proof alone carries the tables.
+fn compared(rt: &impl Print, a: &[u16; 64], b: &[u16; 64], quant: &[u16; 64]) -> io::Result<()> {
     if same_coefficients(a, b, quant) {
         line(
+            rt,
             squared_differences(a, b),
             squared_differences(quant, &[0u16; 64]),
-        );
+        )?;
     }
+    Ok(())
 }
 
-pub fn report() {
-    compared(&FIRST, &SECOND, &TABLE);
+pub fn report(rt: &impl Print) -> io::Result<()> {
+    compared(rt, &FIRST, &SECOND, &TABLE)
 }

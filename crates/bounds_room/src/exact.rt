@@ -27,5 +27,5 @@ pub fn apart_u16(a: u16, b: u16) -> u64
 
 // total + a * b. No sum here reaches 2^53, so nothing wraps.
 pub fn plus_product(total: u64, a: u64, b: u64) -> u64 {
-    std::num::wrapping_add_u64(total, wrapping_mul_u64(a, b))
+    total.wrapping_add(wrapping_mul_u64(a, b))
 }

@@ -1,7 +1,8 @@
 // What the search found. No quantizer of the two tables is 0, so each is its own divisor.
 
-// Two blocks as far above 128 as below it, so that each scaled sum of the one is that of the other, negated; and a table whose
-// divisors are the least above the distance of the two sums, over 2^32. So every coefficient of both is 0.
+// Two blocks as far above 128 as below it, so that each scaled sum of the one is that of the other,
+// negated; and a table whose divisors are the least above the distance of the two sums, over 2^32.
+// So every coefficient of both is 0.
 pub const FIRST: [u8; 64] = [
     248, 252, 16, 52, 246, 204, 135, 247, 11, 96, 5, 6, 247, 247, 191, 67, 248, 251, 7, 245, 242,
     6, 230, 190, 9, 6, 229, 247, 245, 185, 193, 245, 6, 79, 181, 235, 241, 39, 253, 84, 229, 252,
@@ -21,8 +22,8 @@ pub const TABLE: [u8; 64] = [
     132, 240, 228, 17, 249, 96,
 ];
 
-// A block, and a table by which each scaled sum lies nearly half a divisor off what its coefficient stands for, on the side of the
-// basis integer's sign at the place (X, Y).
+// A block, and a table by which each scaled sum lies nearly half a divisor off what its coefficient
+// stands for, on the side of the basis integer's sign at the place (X, Y).
 pub const BLOCK: [u8; 64] = [
     139, 130, 163, 124, 113, 202, 146, 239, 238, 128, 138, 138, 93, 122, 100, 97, 118, 165, 76,
     138, 111, 103, 180, 193, 169, 105, 158, 105, 153, 90, 106, 194, 73, 92, 151, 174, 187, 115,

@@ -1,7 +1,8 @@
 // What the search found of 12 bits. No quantizer of the table is 0, so each is its own divisor.
 
-// Two blocks as far above 2048 as below it, and the least table under which every coefficient of both is 0, as of 8 bits. Nearly all of
-// their difference lies in one frequency, (2, 0), whose sums are just below half of their divisor; the others' divisors are small.
+// Two blocks as far above 2048 as below it, and the least table under which every coefficient of
+// both is 0, as of 8 bits. Nearly all of their difference lies in one frequency, (2, 0), whose sums
+// are just below half of their divisor; the others' divisors are small.
 pub const FIRST: [u16; 64] = [
     4094, 2896, 1201, 4, 3, 1200, 2898, 4092, 4094, 2895, 1199, 4, 4, 1200, 2897, 4093, 4094, 2896,
     1201, 3, 2, 1201, 2897, 4093, 4093, 2897, 1199, 2, 2, 1201, 2897, 4093, 4093, 2895, 1201, 5, 2,

@@ -4,10 +4,12 @@ use crate::found::{BLOCK, BLOCK_TABLE, X, Y};
 use crate::print::item;
 use basis::basis_table;
 use round_trip::round_trip;
+use std::io;
 
 const PLACE: usize = 8 * Y + X;
 
-// Where the basis integers of a frequency hold that of the place, whose row is mirrored: leaf 3, without its sign.
+// Where the basis integers of a frequency hold that of the place, whose row is mirrored: leaf 3,
+// without its sign.
 const ENTRY: usize = 4 * (7 - Y) + X;
 
 // The absolute value of a basis integer.
@@ -19,15 +21,14 @@ fn absolute(entry: i32) -> u64 {
 fn weighted_basis(quant: &[u8; 64]) -> u64 {
     let table = basis_table();
     let mut total = 0x4_0000_0000;
-    let mut n = 0;
-    while n < 64 {
+    for n in 0..64 {
         total = plus_product(total, apart(quant[n], 0), absolute(table[16 * n + ENTRY]));
-        n += 1;
     }
     total
 }
 
-// The block's coefficients, dequantized and handed to the inverse: the sample that comes back. A refusal leaves 0.
+// The block's coefficients, dequantized and handed to the inverse: the sample that comes back. A
+// refusal leaves 0.
 fn sample_back(block: &[u8; 64], quant: &[u8; 64]) -> u8 {
     let mut coefficients_a = [0i16; 64];
     let mut coefficients_b = [0i16; 64];
@@ -49,27 +50,29 @@ fn sample_back(block: &[u8; 64], quant: &[u8; 64]) -> u8 {
     samples[PLACE]
 }
 
-fn line(a: u8, c: u8, bound: u64) {
-    item(b"): sample ", a as u64);
-    item(b" comes back as ", c as u64);
+fn line(rt: &impl Print, a: u8, c: u8, bound: u64) -> io::Result<()> {
+    item(rt, "): sample ", a as u64)?;
+    item(rt, " comes back as ", c as u64)?;
     item(
-        b"; 2^33 times their difference ",
+        rt,
+        "; 2^33 times their difference ",
         0x2_0000_0000 * apart(a, c),
-    );
-    item(b", 2^34 and the weighted basis ", bound);
+    )?;
+    item(rt, ", 2^34 and the weighted basis ", bound)
 }
 
 // Apart from `report`, whose proof alone carries the tables.
-fn compared(block: &[u8; 64], quant: &[u8; 64]) {
-    item(b"\nplace (", X as u64);
-    item(b", ", Y as u64);
+fn compared(rt: &impl Print, block: &[u8; 64], quant: &[u8; 64]) -> io::Result<()> {
+    item(rt, "\nplace (", X as u64)?;
+    item(rt, ", ", Y as u64)?;
     line(
+        rt,
         block[PLACE],
         sample_back(block, quant),
         weighted_basis(quant),
-    );
+    )
 }
 
-pub fn report() {
-    compared(&BLOCK, &BLOCK_TABLE);
+pub fn report(rt: &impl Print) -> io::Result<()> {
+    compared(rt, &BLOCK, &BLOCK_TABLE)
 }

@@ -1,7 +1,6 @@
 // What the lines are made of.
-use libc::STDOUT_FILENO;
+use std::io;
 
-pub fn item(label: &[u8], n: u64) {
-    io::write_all(STDOUT_FILENO, label);
-    io::print_decimal(STDOUT_FILENO, n);
+pub fn item(rt: &impl Print, label: &str, n: u64) -> io::Result<()> {
+    print!(rt; "{label}{n}")
 }

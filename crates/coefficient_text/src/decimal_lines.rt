@@ -5,8 +5,8 @@ ghost use Rattle.coefficient_text.specs.Lines.{digits, numeral, separator, numbe
 
 use quantize::unsigned_abs;
 
-// Places of an output: 64 numbers of at most six bytes ("-32768", any number of 16 bits), each with the space or the newline that
-// follows it.
+// Places of an output: 64 numbers of at most six bytes ("-32768", any number of 16 bits), each with
+// the space or the newline that follows it.
 pub const LINES: usize = 448;
 
 // The digits of a number below 10^k: those above the last where there are any, then the last.

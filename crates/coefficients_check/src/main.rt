@@ -1,25 +1,31 @@
-// Prints what `coefficient_text` answers and writes for known input: the files of data/ that `args` names, and at the end what other
-// numbers of places give. A case has a line, its name, the bytes of input, the places of output, the status and the bytes of text,
-// and then the output and what lies behind it, dots where the call wrote nothing. The stdout beside src/ holds the coefficients as
+// Prints what `coefficient_text` answers and writes for known input: the files of data/ that `args`
+// names, and at the end what other numbers of places give. A case has a line, its name, the bytes of
+// input, the places of output, the status and the bytes of text, and then the output and what lies
+// behind it, dots where the call wrote nothing. The stdout beside src/ holds the coefficients as
 // computed apart from this code, from document 01's definition.
 
 #![tactic(auto)]
 
 ghost use Rattle.std.specs.Prelude.{◌≤◌, ◌≡◌, length};
 
-use coefficient_text::{Printed, TEXT};
-use libc::STDOUT_FILENO;
+use coefficient_text::{Printed, TEXT, coefficient_text};
+use std::fs::File;
+use std::rt::{Env, Files};
+use std::{env, io};
+use streams::read_full;
 
 // One place more than an output has, and a newline.
 const ROOM: usize = 450;
 
-fn text(bytes: &[u8]) {
-    io::write_all(STDOUT_FILENO, bytes);
+// The most bytes that are read of a file.
+const INPUT: usize = 4096;
+
+fn text(rt: &impl Print, bytes: &[u8]) -> io::Result<()> {
+    rt.write_all(bytes)
 }
 
-fn number(n: usize) {
-    text(b" ");
-    io::print_decimal(STDOUT_FILENO, n as u64);
+fn number(rt: &impl Print, n: usize) -> io::Result<()> {
+    print!(rt; " {n}")
 }
 
 // No byte of a text is a dot.
@@ -31,54 +37,51 @@ fn dots() -> [u8; ROOM]
     room
 }
 
-fn report(got: Printed, room: &[u8]) {
-    number(got.status as usize);
-    number(got.count);
-    text(b"\n");
-    text(room);
+fn report(rt: &impl Print, got: Printed, room: &[u8]) -> io::Result<()> {
+    number(rt, got.status as usize)?;
+    number(rt, got.count)?;
+    text(rt, b"\n")?;
+    text(rt, room)
 }
 
-fn answer(input: &[u8], places: usize)
+fn answer(rt: &impl Print, input: &[u8], places: usize) -> io::Result<()>
     requires { places ≤ 449 }
 {
     let mut room = dots();
-    let got = coefficient_text::coefficient_text(input, &mut room[..places]);
-    report(got, &room);
+    let got = coefficient_text(input, &mut room[..places]);
+    report(rt, got, &room)
 }
 
 // A file that cannot be read has no byte, and the line says so.
-fn case(name: &[u8], places: usize)
+fn case(rt: &(impl Files + Print), name: &str, places: usize) -> io::Result<()>
     requires { places ≤ 449 }
 {
-    let fd = os::open_read(name);
-    let mut input = io::buffer();
-    let got = io::read_full(fd, &mut input);
-    libc::close(fd);
-    text(name);
-    number(got);
-    number(places);
-    answer(&input[..got], places);
+    let mut input = [0u8; INPUT];
+    let got = match File::open(rt, name) {
+        Ok(mut file) => read_full(&mut file, &mut input),
+        Err(_) => 0,
+    };
+    text(rt, name.as_bytes())?;
+    number(rt, got)?;
+    number(rt, places)?;
+    answer(rt, &input[..got], places)
 }
 
-fn named(i: usize) {
-    let mut name = io::buffer();
-    let got = os::arg(i, &mut name);
-    case(&name[..got], TEXT);
+fn named(rt: &(impl Files + Print), name: &str) -> io::Result<()> {
+    case(rt, name, TEXT)
 }
 
-fn each_named() {
-    let count = os::arg_count();
-    let mut i = 1;
-    while i < count {
-        named(i);
-        i += 1;
+fn each_named(rt: &(impl Files + Env + Print + Alloc)) -> io::Result<()> {
+    for name in env::args(rt)?.skip(1) {
+        named(rt, name.as_str())?;
     }
+    Ok(())
 }
 
 // The output's length is tested first.
-fn main() {
-    each_named();
-    case(b"white", 447);
-    case(b"white", 449);
-    case(b"76_bytes", 0);
+fn main(rt: HostRuntime) -> io::Result<()> {
+    each_named(&rt)?;
+    case(&rt, "white", 447)?;
+    case(&rt, "white", 449)?;
+    case(&rt, "76_bytes", 0)
 }

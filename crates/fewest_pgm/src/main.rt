@@ -1,18 +1,20 @@
-// Reads a grey picture (Netpbm PGM, P5 with maxval 255) from standard input and prints, for squared errors of 0, 1, 4, 16, 64 and 256 a
-// sample, which percent of T.81's table K.1 (luminance) keeps within that error with the fewest nonzero coefficients, of 200 tried
-// (document 02, card 12).
+// Reads a grey picture (Netpbm PGM, P5 with maxval 255) from standard input and prints, for squared
+// errors of 0, 1, 4, 16, 64 and 256 a sample, which percent of T.81's table K.1 (luminance) keeps
+// within that error with the fewest nonzero coefficients, of 200 tried (document 02, card 12).
 //
-// The picture is held whole, so it has at most as many bytes as `ROOM`, header and all; of a larger one, or a raster that is too short, it
-// says `refused 10` on standard error, and `refused 8` of another width or height. What cannot be written is left out: a program has no
-// exit status.
+// The picture is held whole, so it has at most as many bytes as `ROOM`, header and all; of a larger
+// one, or a raster that is too short, it says `refused 10` on standard error, and `refused 8` of
+// another width or height. A failed read counts as the end of the input. What cannot be written is
+// left out: the exit status is 0 all the same.
 
 #![tactic(auto)]
 
 ghost use Rattle.std.specs.Prelude.{◌≤◌};
 
 use fewest::{Found, fewest_coefficients};
-use libc::{STDERR_FILENO, STDIN_FILENO, STDOUT_FILENO};
 use pgm::{Answer, header_of};
+use std::io;
+use streams::read_full;
 
 const ROOM: usize = 131072;
 
@@ -22,54 +24,61 @@ const K1: [u8; 64] = [
     92, 49, 64, 78, 87, 103, 121, 120, 101, 72, 92, 95, 98, 112, 100, 103, 99,
 ];
 
-fn refuse(number: u32) {
-    io::write_all(STDERR_FILENO, b"refused ");
-    io::print_decimal(STDERR_FILENO, number as u64);
-    io::write_all(STDERR_FILENO, b"\n");
+fn refuse(rt: &impl Eprint, number: u32) -> io::Result<()> {
+    eprintln!(rt; "refused {number}")
 }
 
-fn item(label: &[u8], n: u64) {
-    io::write_all(STDOUT_FILENO, label);
-    io::print_decimal(STDOUT_FILENO, n);
+fn item(rt: &impl Print, label: &str, n: u64) -> io::Result<()> {
+    print!(rt; "{label}{n}")
 }
 
-fn show_found(found: Found, off: u64) {
+fn show_found(rt: &impl Print, found: Found, off: u64) -> io::Result<()> {
     match found {
-        Found::NoneGood => {
-            io::write_all(STDOUT_FILENO, b": none tried is good");
-        }
+        Found::NoneGood => print!(rt; ": none tried is good"),
         Found::Good(percent) => {
-            item(b": ", percent as u64);
-            item(b" percent, off by at most ", off);
+            item(rt, ": ", percent as u64)?;
+            item(rt, " percent, off by at most ", off)
         }
     }
 }
 
 // What is found for a squared error of `mean` a sample.
-fn show(samples: &[u8], width: usize, height: usize, base: &[u8; 64], mean: u32)
+fn show(
+    rt: &impl Print,
+    samples: &[u8],
+    width: usize,
+    height: usize,
+    base: &[u8; 64],
+    mean: u32,
+) -> io::Result<()>
     requires { (width ≤ 4096) × (height ≤ 4096) }
 {
     let limit = (mean as u64) * ((width * height) as u64);
     let answer = fewest_coefficients(samples, width, height, base, limit, 200);
-    item(b"squared error ", limit);
-    let found = answer.found;
-    show_found(found, answer.off);
-    item(b", tried ", answer.trials as u64);
-    io::write_all(STDOUT_FILENO, b"\n");
+    item(rt, "squared error ", limit)?;
+    show_found(rt, answer.found, answer.off)?;
+    item(rt, ", tried ", answer.trials as u64)?;
+    println!(rt)
 }
 
-fn show_all(samples: &[u8], width: usize, height: usize, base: &[u8; 64])
+fn show_all(
+    rt: &impl Print,
+    samples: &[u8],
+    width: usize,
+    height: usize,
+    base: &[u8; 64],
+) -> io::Result<()>
     requires { (width ≤ 4096) × (height ≤ 4096) }
 {
-    show(samples, width, height, base, 0);
-    show(samples, width, height, base, 1);
-    show(samples, width, height, base, 4);
-    show(samples, width, height, base, 16);
-    show(samples, width, height, base, 64);
-    show(samples, width, height, base, 256);
+    show(rt, samples, width, height, base, 0)?;
+    show(rt, samples, width, height, base, 1)?;
+    show(rt, samples, width, height, base, 4)?;
+    show(rt, samples, width, height, base, 16)?;
+    show(rt, samples, width, height, base, 64)?;
+    show(rt, samples, width, height, base, 256)
 }
 
-fn show_picture(bytes: &[u8], base: &[u8; 64]) {
+fn show_picture(rt: &(impl Print + Eprint), bytes: &[u8], base: &[u8; 64]) -> io::Result<()> {
     match header_of(bytes) {
         Answer::Header {
             width,
@@ -78,19 +87,16 @@ fn show_picture(bytes: &[u8], base: &[u8; 64]) {
         } => {
             let end = length + width * height;
             if bytes.len() < end {
-                refuse(10);
-                return;
+                return refuse(rt, 10);
             }
-            show_all(&bytes[length..end], width, height, base);
+            show_all(rt, &bytes[length..end], width, height, base)
         }
-        Answer::Refused(number) => {
-            refuse(number);
-        }
+        Answer::Refused(number) => refuse(rt, number),
     }
 }
 
-fn main() {
+fn main(rt: HostRuntime) {
     let mut bytes = [0u8; ROOM];
-    let n = io::read_full(STDIN_FILENO, &mut bytes);
-    show_picture(&bytes[..n], &K1);
+    let n = read_full(&mut rt.reader(), &mut bytes);
+    let _ = show_picture(&rt, &bytes[..n], &K1);
 }

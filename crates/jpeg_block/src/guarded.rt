@@ -24,7 +24,7 @@ fn put_reciprocals(from: &[f64; 64], to: &mut [f64])
 
 // Apart from the exported function: written there, the compiler makes a longer loop of it.
 fn quantization_divisors_into(quant: &[u8], out: &mut [f64]) -> u32
-    ensures value { result ≡ status (table_tests quant.now ++ 3 unless (λ x. x.now) out.entry of 64 ∷ []) }
+    ensures value { result ≡ status (table_tests quant.now ++ 3 unless out.old of 64 ∷ []) }
     ensures out_after { out.new ≡ written result (divisors_answer quant.now).divisors.reciprocals out.old }
 {
     let made = quantization_divisors(quant);
@@ -41,7 +41,7 @@ fn quantization_divisors_into(quant: &[u8], out: &mut [f64]) -> u32
 // `fdct_f64::quantization_divisors`. Refusals 2 and 5, then 3 for the output.
 #[unsafe(no_mangle)]
 pub extern "C" fn jpeg_block_quantization_divisors(quant: &[u8], out: &mut [f64]) -> u32
-    ensures value { result ≡ status (table_tests quant.now ++ 3 unless (λ x. x.now) out.entry of 64 ∷ []) } // 2, 5, then 3
+    ensures value { result ≡ status (table_tests quant.now ++ 3 unless out.old of 64 ∷ []) } // 2, 5, then 3
     ensures out_after { out.new ≡ written result (divisors_answer quant.now).divisors.reciprocals out.old }
 {
     quantization_divisors_into(quant, out)

@@ -55,7 +55,7 @@ fn word_number(word: Word) -> u32
 // Refusal 13, then 3 for the place of the state.
 #[unsafe(no_mangle)]
 pub extern "C" fn jpeg_block_bench_queue_new(benches: u32, state: &mut [u32]) -> u32
-    ensures value { result ≡ status (new_tests benches ++ 3 unless (λ x. x.now) state.entry of 10 ∷ []) }
+    ensures value { result ≡ status (new_tests benches ++ 3 unless state.old of 10 ∷ []) }
     ensures state_after { state.new ≡ written result (state_numbers (new_answer benches).state) state.old }
 {
     let made = BenchQueue::new(benches);

@@ -8,7 +8,7 @@ use crate::show::{
 };
 use block::Clamped;
 use guarded_quantizer::Quantized;
-use libc::STDOUT_FILENO;
+use std::io;
 use stored_blocks::Answer;
 
 // One place more than the longest input or output that a function takes.
@@ -17,15 +17,15 @@ pub const ROOM: usize = 65;
 // Every place of an output's room holds this before the call. No answer below is it.
 const FILL: u8 = 165;
 
-fn descale(v: &[u64; MOST]) {
+fn descale(rt: &impl Print, v: &[u64; MOST]) -> io::Result<()> {
     let got = scaling::descale(i32_at(v, 0), i32_at(v, 1));
-    show_one(got.status, got.value);
+    show_one(rt, got.status, got.value)
 }
 
-fn islow_gain_bounds() {
+fn islow_gain_bounds(rt: &impl Print) -> io::Result<()> {
     let got = gains::islow_gain_bounds();
-    show_one(0, got.max_gain);
-    show_one(0, got.max_l1);
+    show_one(rt, 0, got.max_gain)?;
+    show_one(rt, 0, got.max_l1)
 }
 
 // A room of zeros but for an entry, which its value follows.
@@ -84,50 +84,50 @@ fn wide_block(function: usize, input: &[i32], output: &mut [u8]) -> Clamped {
     }
 }
 
-fn narrow_to(function: usize, input: &[i16], v: &[u64; MOST]) {
+fn narrow_to(rt: &impl Print, function: usize, input: &[i16], v: &[u64; MOST]) -> io::Result<()> {
     let mut room = [FILL; ROOM];
     let to = places(v, 3);
     let got = narrow(function, input, &mut room[0..to]);
-    show_u8(got.status, &room);
-    show_counts(got.raised, got.lowered);
+    show_u8(rt, got.status, &room)?;
+    show_counts(rt, got.raised, got.lowered)
 }
 
-fn deep_to(function: usize, input: &[i16], v: &[u64; MOST]) {
+fn deep_to(rt: &impl Print, function: usize, input: &[i16], v: &[u64; MOST]) -> io::Result<()> {
     let mut room = [FILL as u16; ROOM];
     let to = places(v, 3);
     let status = deep(function, input, &mut room[0..to]);
-    show_u16(status, &room);
+    show_u16(rt, status, &room)
 }
 
-fn wide_to(function: usize, input: &[i32], v: &[u64; MOST]) {
+fn wide_to(rt: &impl Print, function: usize, input: &[i32], v: &[u64; MOST]) -> io::Result<()> {
     let mut room = [FILL; ROOM];
     let to = places(v, 3);
     let got = wide_block(function, input, &mut room[0..to]);
-    show_u8(got.status, &room);
-    show_counts(got.raised, got.lowered);
+    show_u8(rt, got.status, &room)?;
+    show_counts(rt, got.raised, got.lowered)
 }
 
-fn wide_case(function: usize, v: &[u64; MOST]) {
+fn wide_case(rt: &impl Print, function: usize, v: &[u64; MOST]) -> io::Result<()> {
     let input = only_i32(v);
     let from = places(v, 2);
-    wide_to(function, &input[0..from], v);
+    wide_to(rt, function, &input[0..from], v)
 }
 
-fn fdct_quantize(samples: &[u8], v: &[u64; MOST]) {
+fn fdct_quantize(rt: &impl Print, samples: &[u8], v: &[u64; MOST]) -> io::Result<()> {
     let quant = [u8_at(v, 3); ROOM];
-    fdct_to(samples, part(&quant, v, 2), v);
+    fdct_to(rt, samples, part(&quant, v, 2), v)
 }
 
-fn fdct_to(samples: &[u8], quant: &[u8], v: &[u64; MOST]) {
+fn fdct_to(rt: &impl Print, samples: &[u8], quant: &[u8], v: &[u64; MOST]) -> io::Result<()> {
     let room: &mut [i16] = &mut [FILL as i16; ROOM];
     let to = places(v, 4);
     let status = fdct::fdct_quantize(samples, quant, &mut room[0..to]);
-    show_i16(status, room);
+    show_i16(rt, status, room)
 }
 
-fn coefficient_of(samples: &[u8], v: &[u64; MOST]) {
+fn coefficient_of(rt: &impl Print, samples: &[u8], v: &[u64; MOST]) -> io::Result<()> {
     let got = fdct::fdct_quantize_coefficient(samples, u8_at(v, 2), v[3] as usize);
-    show_one(got.status, wide(got.value));
+    show_one(rt, got.status, wide(got.value))
 }
 
 // Equal quantizers but for the 64th: how many, what they are, 64, and what the 64th is.
@@ -139,35 +139,35 @@ fn table_of(v: &[u64; MOST], k: usize) -> [u8; ROOM]
     quant
 }
 
-fn divisors_of(v: &[u64; MOST]) {
+fn divisors_of(rt: &impl Print, v: &[u64; MOST]) -> io::Result<()> {
     let quant = table_of(v, 0);
     let made = fdct_f64::quantization_divisors(part(&quant, v, 0));
-    let divisors = made.divisors;
-    let reciprocals = divisors.reciprocals;
-    show_f64(made.status, &reciprocals);
+    show_f64(rt, made.status, &made.divisors.reciprocals)
 }
 
-fn bitmap(bits: u64) {
-    io::write_all(STDOUT_FILENO, b" | bitmap ");
-    io::print_decimal(STDOUT_FILENO, bits);
+fn bitmap(rt: &impl Print, bits: u64) -> io::Result<()> {
+    print!(rt; " | bitmap {bits}")
 }
 
-fn record(got: Quantized) {
+fn record(rt: &impl Print, got: Quantized) -> io::Result<()> {
     let block = got.block;
-    let ac = block.ac_coefficients;
-    show_one(got.status, wide(block.dc));
-    bitmap(block.nonzero_ac);
-    show_i16(0, &ac);
+    show_one(rt, got.status, wide(block.dc))?;
+    bitmap(rt, block.nonzero_ac)?;
+    show_i16(rt, 0, &block.ac_coefficients)
 }
 
 // By the divisors of 64 quantizers 1.
-fn guarded(samples: &[u8], v: &[u64; MOST]) {
+fn guarded(rt: &impl Print, samples: &[u8], v: &[u64; MOST]) -> io::Result<()> {
     let quant = table_of(v, 2);
     let made = fdct_f64::quantization_divisors(&[1u8; 64]);
-    record(transform::fdct_quantize(samples, part(&quant, v, 2), made.divisors));
+    record(
+        rt,
+        transform::fdct_quantize(samples, part(&quant, v, 2), made.divisors),
+    )
 }
 
-// A sample replaced: number k is its place, and the next one its value. A value 0, as where a line ends before, replaces nothing.
+// A sample replaced: number k is its place, and the next one its value. A value 0, as where a line
+// ends before, replaces nothing.
 fn replaced(mut samples: [u8; ROOM], v: &[u64; MOST], k: usize) -> [u8; ROOM]
     requires { k < 19 }
 {
@@ -199,43 +199,44 @@ fn after(function: usize) -> usize
 }
 
 // How many samples, and what they are.
-fn forward(function: usize, v: &[u64; MOST]) {
+fn forward(rt: &impl Print, function: usize, v: &[u64; MOST]) -> io::Result<()> {
     let all = samples_of(v, after(function));
     let samples = part(&all, v, 0);
     match function {
-        13 => fdct_quantize(samples, v),
-        14 => coefficient_of(samples, v),
-        _ => guarded(samples, v),
+        13 => fdct_quantize(rt, samples, v),
+        14 => coefficient_of(rt, samples, v),
+        _ => guarded(rt, samples, v),
     }
 }
 
-fn dequantize_to(input: &[i16], quant: &[u8], v: &[u64; MOST]) {
+fn dequantize_to(rt: &impl Print, input: &[i16], quant: &[u8], v: &[u64; MOST]) -> io::Result<()> {
     let mut room = [FILL as i32; ROOM];
     let to = places(v, 5);
     let status = stored_blocks::dequantize(input, quant, &mut room[0..to]);
-    show_i32(status, &room);
+    show_i32(rt, status, &room)
 }
 
-fn answer(got: Answer) {
-    show_one(got.status, one_if(got.yes));
+fn answer(rt: &impl Print, got: Answer) -> io::Result<()> {
+    show_one(rt, got.status, one_if(got.yes))
 }
 
-fn with_table(function: usize, input: &[i16], v: &[u64; MOST]) {
+fn with_table(rt: &impl Print, function: usize, input: &[i16], v: &[u64; MOST]) -> io::Result<()> {
     let quant = [u8_at(v, 4); ROOM];
     let table = part(&quant, v, 3);
     if function == 17 {
-        dequantize_to(input, table, v);
+        dequantize_to(rt, input, table, v)
     } else {
-        answer(stored_blocks::screen(input, table));
+        answer(rt, stored_blocks::screen(input, table))
     }
 }
 
-fn same(input: &[i16], v: &[u64; MOST]) {
+fn same(rt: &impl Print, input: &[i16], v: &[u64; MOST]) -> io::Result<()> {
     let other = only(v, 3);
-    answer(stored_blocks::same(input, part_i16(&other, v, 5)));
+    answer(rt, stored_blocks::same(input, part_i16(&other, v, 5)))
 }
 
-// An 8-bit block may have a second entry, behind its other numbers. A value 0, as where a line ends before, is none.
+// An 8-bit block may have a second entry, behind its other numbers. A value 0, as where a line ends
+// before, is none.
 fn second(function: usize, mut room: [i16; ROOM], v: &[u64; MOST]) -> [i16; ROOM] {
     let value = i16_at(v, 7);
     if function < 8 && value != 0 {
@@ -245,36 +246,36 @@ fn second(function: usize, mut room: [i16; ROOM], v: &[u64; MOST]) -> [i16; ROOM
 }
 
 // An entry, its value, and how many places the input has.
-fn block(function: usize, v: &[u64; MOST]) {
+fn block(rt: &impl Print, function: usize, v: &[u64; MOST]) -> io::Result<()> {
     let room = second(function, only(v, 0), v);
     let input = part_i16(&room, v, 2);
     match function {
-        4 | 5 | 6 | 7 => narrow_to(function, input, v),
-        8 | 9 | 10 => deep_to(function, input, v),
-        17 | 18 => with_table(function, input, v),
-        _ => same(input, v),
+        4 | 5 | 6 | 7 => narrow_to(rt, function, input, v),
+        8 | 9 | 10 => deep_to(rt, function, input, v),
+        17 | 18 => with_table(rt, function, input, v),
+        _ => same(rt, input, v),
     }
 }
 
-fn sample_u8(v: &[u64; MOST]) {
+fn sample_u8(rt: &impl Print, v: &[u64; MOST]) -> io::Result<()> {
     let got = clamping::sample_u8(i32_at(v, 0));
-    show_one(0, small(got.sample));
-    let rule = got.rule;
-    show_rule(rule);
+    show_one(rt, 0, small(got.sample))?;
+    show_rule(rt, got.rule)
 }
 
-pub fn call(function: usize, v: &[u64; MOST]) {
+pub fn call(rt: &impl Print, function: usize, v: &[u64; MOST]) -> io::Result<()> {
     match function {
-        0 => descale(v),
-        1 => sample_u8(v),
+        0 => descale(rt, v),
+        1 => sample_u8(rt, v),
         2 => show_one(
+            rt,
             0,
             clamping::sample_12bit(wrapping::bits::from_bits_u64(v[0])) as i32,
         ),
-        3 => islow_gain_bounds(),
-        11 | 12 => wide_case(function, v),
-        13 | 14 | 15 => forward(function, v),
-        16 => divisors_of(v),
-        _ => block(function, v),
+        3 => islow_gain_bounds(rt),
+        11 | 12 => wide_case(rt, function, v),
+        13 | 14 | 15 => forward(rt, function, v),
+        16 => divisors_of(rt, v),
+        _ => block(rt, function, v),
     }
 }

@@ -51,11 +51,7 @@ fn step(scan: Scan, byte: u8) -> Scan {
 
 // In two's complement.
 fn signed(value: u64, minus: bool) -> u64 {
-    if minus {
-        std::num::wrapping_sub_u64(0, value)
-    } else {
-        value
-    }
+    if minus { value.wrapping_neg() } else { value }
 }
 
 // Those that a line lacks are 0.
@@ -67,13 +63,10 @@ pub fn numbers(line: &[u8]) -> [u64; MOST] {
         minus: false,
         inside: false,
     };
-    let mut i = 0;
-    while i < line.len() {
-        scan = step(scan, line[i]);
-        i += 1;
-        let ended = scan.ended;
-        if ended < MOST {
-            found[ended] = signed(scan.value, scan.minus);
+    for byte in line {
+        scan = step(scan, *byte);
+        if scan.ended < MOST {
+            found[scan.ended] = signed(scan.value, scan.minus);
         }
     }
     found

@@ -1,8 +1,10 @@
-// The guarded quantizer and the canonical one over blocks that have a value near a half (document 02, card 10): 300 of the harness with one
-// inside the guard, and 300 with one less than four times as far, outside of it (oracle/guarded.rs). Prints how many blocks and coefficients
-// there were, at how many coefficients the guard was taken, and at how many the two quantizers differ.
+// The guarded quantizer and the canonical one over blocks that have a value near a half (document
+// 02, card 10): 300 of the harness with one inside the guard, and 300 with one less than four times
+// as far, outside of it (oracle/guarded.rs). Prints how many blocks and coefficients there were, at
+// how many coefficients the guard was taken, and at how many the two quantizers differ.
 //
-// Standard input has 64 samples and 64 quantizers for each block.
+// Standard input has 64 samples and 64 quantizers for each block. A failed read counts as the end;
+// a write that fails is `main`'s error.
 
 #![tactic(auto)]
 
@@ -11,7 +13,8 @@ ghost use Rattle.std.specs.Prelude.{◌≡◌, ◌≤◌, ◌<◌, length};
 use fdct::fdct_quantize;
 use fdct_f64::{fdct_values, quantization_divisors};
 use guarded_record::fdct_quantize_record;
-use libc::{STDIN_FILENO, STDOUT_FILENO};
+use std::io;
+use streams::read_full;
 use transform::binary64::near_half;
 use zigzag::zigzag;
 
@@ -27,12 +30,10 @@ fn guards_of(block: &[u8], quant: &[u8]) -> u64
     let reciprocals = made.divisors.reciprocals;
     let values = fdct_values(block);
     let mut guards = 0;
-    let mut n = 0;
-    while n < 64 {
+    for n in 0..64 {
         if near_half(values[n] * reciprocals[n]) {
             guards += 1;
         }
-        n += 1;
     }
     guards
 }
@@ -44,7 +45,8 @@ fn place(natural: u8) -> usize
     (natural as usize) % 64
 }
 
-// At how many frequencies the record has another coefficient than the canonical block entry writes; 64 where a call is refused.
+// At how many frequencies the record has another coefficient than the canonical block entry writes;
+// 64 where a call is refused.
 fn differences_of(block: &[u8], quant: &[u8]) -> u64
     ensures { result ≤ 64 }
 {
@@ -54,45 +56,40 @@ fn differences_of(block: &[u8], quant: &[u8]) -> u64
     if (got.status | status) != 0 {
         return 64;
     }
-    let record = got.block;
-    let dc = record.dc;
-    let mut held = record.ac_coefficients;
-    held[0] = dc;
+    let mut held = got.block.ac_coefficients;
+    held[0] = got.block.dc;
     let order = zigzag();
     let mut differences = 0;
-    let mut z = 0;
-    while z < 64 {
+    for z in 0..64 {
         if held[z] != canonical[place(order[z])] {
             differences += 1;
         }
-        z += 1;
     }
     differences
 }
 
-fn line(label: &[u8], n: u64) {
-    io::write_all(STDOUT_FILENO, label);
-    io::print_decimal(STDOUT_FILENO, n);
-    io::write_all(STDOUT_FILENO, b"\n");
+fn line(rt: &impl Print, label: &str, n: u64) -> io::Result<()> {
+    println!(rt; "{label}{n}")
 }
 
-fn main() {
+fn main(rt: HostRuntime) -> io::Result<()> {
+    let mut input = rt.reader();
     let mut blocks: u64 = 0;
     let mut guards: u64 = 0;
     let mut differences: u64 = 0;
     let mut block = [0u8; 64];
     let mut quant = [0u8; 64];
-    while blocks < MOST {
-        io::read_full(STDIN_FILENO, &mut block);
-        if io::read_full(STDIN_FILENO, &mut quant) != 64 {
+    for _ in 0..MOST {
+        read_full(&mut input, &mut block);
+        if read_full(&mut input, &mut quant) != 64 {
             break;
         }
         guards += guards_of(&block, &quant);
         differences += differences_of(&block, &quant);
         blocks += 1;
     }
-    line(b"blocks ", blocks);
-    line(b"coefficients ", 64 * blocks);
-    line(b"guard taken ", guards);
-    line(b"differences ", differences);
+    line(&rt, "blocks ", blocks)?;
+    line(&rt, "coefficients ", 64 * blocks)?;
+    line(&rt, "guard taken ", guards)?;
+    line(&rt, "differences ", differences)
 }

@@ -1,6 +1,6 @@
-// The functions that are replayed, by their places in main.rt's list. One more is an arm here, its call in a `.._cases` module (where a
-// function has the same signature, an arm beside its call), the bytes of its inputs here, its name in main.rt, and its answers
-// in oracle/generate.rs.
+// The functions that are replayed, by their places in main.rt's list. One more is an arm here, its
+// call in a `.._cases` module (where a function has the same signature, an arm beside its call),
+// the bytes of its inputs here, its name in main.rt, and its answers in oracle/generate.rs.
 use crate::decode::ROOM;
 use crate::encode::Answer;
 use crate::{

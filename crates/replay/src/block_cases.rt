@@ -1,4 +1,5 @@
-// The blocks: 64 coefficients, a quantizer table or 64 coefficients more where a function takes them; the answer.
+// The blocks: 64 coefficients, a quantizer table or 64 coefficients more where a function takes
+// them; the answer.
 ghost use Rattle.std.specs.Prelude.{◌≤◌};
 
 use crate::decode::{ROOM, block_i16, block_i32, bytes};

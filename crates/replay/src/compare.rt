@@ -1,5 +1,6 @@
-// The one place where a function's answer meets the recorded one. Both are bytes as a record has them, so one comparison serves every
-// type of answer, and no fault in how inputs are decoded can hide a difference.
+// The one place where a function's answer meets the recorded one. Both are bytes as a record has
+// them, so one comparison serves every type of answer, and no fault in how inputs are decoded can
+// hide a difference.
 ghost use Rattle.std.specs.Prelude.{◌≡◌, true};
 ghost use Rattle.replay.specs.Agrees.{Agrees};
 
@@ -17,5 +18,5 @@ pub fn agrees(recorded: Part, answer: Answer) -> bool
     }
     let expected = recorded.bytes;
     let given = answer.bytes;
-    check::same(&expected, &given)
+    expected == given
 }

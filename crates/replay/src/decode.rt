@@ -112,10 +112,8 @@ pub fn block_i16(case: &[u8; ROOM], at: usize) -> [i16; 64]
     ensures { 64 ≡ length result }
 {
     let mut block = [0i16; 64];
-    let mut i = 0;
-    while i < 64 {
+    for i in 0..64 {
         block[i] = i16_at(case, at + 2 * i);
-        i += 1;
     }
     block
 }
@@ -124,10 +122,8 @@ pub fn block_i32(case: &[u8; ROOM]) -> [i32; 64]
     ensures { 64 ≡ length result }
 {
     let mut block = [0i32; 64];
-    let mut i = 0;
-    while i < 64 {
+    for i in 0..64 {
         block[i] = i32_at(case, 4 * i);
-        i += 1;
     }
     block
 }
@@ -136,10 +132,8 @@ pub fn block_f64(case: &[u8; ROOM], at: usize) -> [f64; 64]
     requires { at + 512 ≤ 640 }
 {
     let mut block = [0.0f64; 64];
-    let mut i = 0;
-    while i < 64 {
+    for i in 0..64 {
         block[i] = f64_at(case, at + 8 * i);
-        i += 1;
     }
     block
 }

@@ -1,4 +1,5 @@
-// A function's answer as a record has it: little-endian numbers. What makes it is handed no recorded answer.
+// A function's answer as a record has it: little-endian numbers. What makes it is handed no
+// recorded answer.
 ghost use Rattle.std.specs.Prelude.{◌+◌, ◌≤◌, ◌<◌, length};
 
 use crate::decode::ROOM;
@@ -40,7 +41,7 @@ pub fn bits_i32(x: i32) -> u64 {
 
 // 0 for a NaN, which no recorded answer is.
 fn bits_f64(x: f64) -> u64 {
-    if x != x {
+    if x.is_nan() {
         return 0;
     }
     f64::to_bits(x)
@@ -49,10 +50,8 @@ fn bits_f64(x: f64) -> u64 {
 pub fn put_number(mut room: [u8; ROOM], at: usize, bits: u64) -> [u8; ROOM]
     requires { at + 8 ≤ 640 }
 {
-    let mut k = 0;
-    while k < 8 {
+    for k in 0..8 {
         room[at + k] = byte_of(bits, k);
-        k += 1;
     }
     room
 }
@@ -60,10 +59,8 @@ pub fn put_number(mut room: [u8; ROOM], at: usize, bits: u64) -> [u8; ROOM]
 pub fn put_i16(mut room: [u8; ROOM], at: usize, values: &[i16; 64]) -> [u8; ROOM]
     requires { at + 128 ≤ 640 }
 {
-    let mut k = 0;
-    while k < 128 {
+    for k in 0..128 {
         room[at + k] = byte_of(bits_i16(values[k / 2]), k % 2);
-        k += 1;
     }
     room
 }
@@ -78,10 +75,8 @@ pub fn number(status: u32, size: usize, bits: u64) -> Answer {
 
 pub fn bytes_u16(status: u32, size: usize, values: &[u16; 64]) -> Answer {
     let mut bytes = [0u8; ROOM];
-    let mut k = 0;
-    while k < 128 {
+    for k in 0..128 {
         bytes[k] = byte_of(bits_u16(values[k / 2]), k % 2);
-        k += 1;
     }
     Answer {
         status,
@@ -94,11 +89,9 @@ pub fn bytes_i32(status: u32, values: &[i32]) -> Answer
     requires { length values.now ≤ 64 }
 {
     let mut bytes = [0u8; ROOM];
-    let mut k = 0;
     let size = 4 * values.len();
-    while k < size {
+    for k in 0..size {
         bytes[k] = byte_of(bits_i32(values[k / 4]), k % 4);
-        k += 1;
     }
     Answer {
         status,
@@ -111,11 +104,9 @@ pub fn bytes_i64(values: &[i64]) -> Answer
     requires { length values.now ≤ 64 }
 {
     let mut bytes = [0u8; ROOM];
-    let mut k = 0;
     let size = 8 * values.len();
-    while k < size {
+    for k in 0..size {
         bytes[k] = byte_of(wrapping::bits::to_bits_i64(values[k / 8]), k % 8);
-        k += 1;
     }
     Answer {
         status: 0,
@@ -126,10 +117,8 @@ pub fn bytes_i64(values: &[i64]) -> Answer
 
 pub fn bytes_f64(status: u32, values: &[f64; 64]) -> Answer {
     let mut bytes = [0u8; ROOM];
-    let mut k = 0;
-    while k < 512 {
+    for k in 0..512 {
         bytes[k] = byte_of(bits_f64(values[k / 8]), k % 8);
-        k += 1;
     }
     Answer {
         status,

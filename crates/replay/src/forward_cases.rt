@@ -1,4 +1,5 @@
-// The forward entries: 64 samples and what quantizes them; the coefficients. And the two tables of zigzag order.
+// The forward entries: 64 samples and what quantizes them; the coefficients. And the two tables of
+// zigzag order.
 use crate::decode::{ROOM, bytes, wide};
 use crate::encode::{Answer, bits_i16, number, put_i16};
 
@@ -22,14 +23,12 @@ pub fn zigzag(function: usize) -> Answer {
     let natural = zigzag::zigzag();
     let places = zigzag::natural::natural_to_zigzag();
     let mut bytes = [0u8; ROOM];
-    let mut k = 0;
-    while k < 64 {
+    for k in 0..64 {
         bytes[k] = if function == 33 {
             natural[k]
         } else {
             (places[k] % 0x100) as u8
         };
-        k += 1;
     }
     Answer {
         status: 0,

@@ -1,5 +1,6 @@
-// The guarded quantizer and its divisors: 64 samples, 64 quantizers, and the divisors or the table that they are made from; the record
-// of DC, AC places and bitmap. The Rust's record has no divisors: those are held to the table.
+// The guarded quantizer and its divisors: 64 samples, 64 quantizers, and the divisors or the table
+// that they are made from; the record of DC, AC places and bitmap. The Rust's record has no
+// divisors: those are held to the table.
 use crate::decode::{ROOM, block_f64, bytes};
 use crate::encode::{Answer, bits_i16, bytes_f64, number, put_i16, put_number};
 use guarded_quantizer::{QuantizationDivisors, QuantizedBlock};
@@ -16,8 +17,7 @@ fn record(status: u32, block: QuantizedBlock) -> Answer {
 
 // The status; 99, which no record has, where a record does not carry the table handed over.
 fn with_table(status: u32, divisors: &[u8; 64], quant: &[u8]) -> u32 {
-    let held: &[u8] = divisors;
-    if check::same(held, quant) {
+    if divisors.as_slice() == quant {
         return status;
     }
     99
