@@ -1,5 +1,5 @@
 # make            proves and builds the archive and the programs (rt; what has not changed since is not proved again)
-# make check      the gate, .ci/run: proves everything from nothing
+# make check      the gate, .ci/run
 # make install    installs header, archive, pkg-config file, programs and manual pages; it proves and builds only what is missing
 # make uninstall  removes what install puts there, given the same variables; folders stay
 #
