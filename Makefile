@@ -1,5 +1,5 @@
 # make            proves and builds the archive and the programs (rt; what has not changed since is not proved again)
-# make check      the gate, .ci/run: proves everything from nothing
+# make check      the gate, .ci/run
 # make install    installs header, archive, pkg-config file, programs and manual pages; it proves and builds only what is missing
 # make uninstall  removes what install puts there, given the same variables; folders stay
 #
@@ -16,8 +16,9 @@ INSTALL = install
 
 PROGRAMS = coefficients recode_pgm percents fewest_pgm benches
 
-archive = target/staticlib/libjpeg_block.a
-programs = $(PROGRAMS:%=target/bin/%)
+# where rt leaves the archive and the programs
+archive = crates/jpeg_block/out/libjpeg_block.a
+programs = $(foreach program,$(PROGRAMS),crates/$(program)/out/$(program))
 pages1 = $(PROGRAMS:%=man/%.1)
 pages3 = man/jpeg_block.3
 
@@ -27,18 +28,24 @@ below = $(patsubst $(PREFIX)/%,$${prefix}/%,$(1))
 put = $(INSTALL) -m $(1) $(2) '$(DESTDIR)$(3)'
 take = rm -f $(patsubst %,'$(DESTDIR)$(2)/%',$(notdir $(1)))
 
+# $(call build,PROGRAM): rt proves and builds a program, and then runs it: on its sample, if it has one
+sample = $$([ -e stdin ] && echo stdin || echo /dev/null)
+build = (cd crates/$(1) && rt run <"$(sample)" >/dev/null)
+# the archive of crate jpeg_block
+library = (cd crates/jpeg_block && rt lib)
+
 all:
-	rt staticlib jpeg_block
-	rt check $(PROGRAMS)
+	$(library)
+	for program in $(PROGRAMS); do $(call build,$$program) || exit 1; done
 
 check:
 	.ci/run
 
 $(archive):
-	rt staticlib jpeg_block
+	$(library)
 
 $(programs):
-	rt check $(@F)
+	$(call build,$(@F))
 
 install: $(archive) $(programs)
 	$(INSTALL) -d '$(DESTDIR)$(INCLUDEDIR)' '$(DESTDIR)$(LIBDIR)' '$(DESTDIR)$(PKGCONFIGDIR)' '$(DESTDIR)$(BINDIR)' '$(DESTDIR)$(MANDIR)/man1' '$(DESTDIR)$(MANDIR)/man3'

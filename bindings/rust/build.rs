@@ -1,6 +1,6 @@
 //! Finds the folder of libjpeg_block.a: the one that JPEG_BLOCK_LIB_DIR names;
-//! else target/staticlib of the repository that this package stands in, where
-//! `rt staticlib jpeg_block` writes; else the one that pkg-config names.
+//! else crates/jpeg_block/out of the repository that this package stands in,
+//! where `rt lib` writes; else the one that pkg-config names.
 
 use std::env;
 use std::path::{Path, PathBuf};
@@ -27,7 +27,7 @@ fn folder() -> Result<PathBuf, String> {
         return Ok(PathBuf::from(named));
     }
     let package = env::var_os("CARGO_MANIFEST_DIR").expect("cargo sets CARGO_MANIFEST_DIR");
-    let built = Path::new(&package).join("../../target/staticlib");
+    let built = Path::new(&package).join("../../crates/jpeg_block/out");
     if built.join(ARCHIVE).is_file() {
         return Ok(built);
     }

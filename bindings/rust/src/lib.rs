@@ -33,7 +33,7 @@
 //! }
 //! ```
 //!
-//! `rt staticlib jpeg_block` writes the archive; build.rs says where it is looked
+//! `rt lib` in crates/jpeg_block writes the archive; build.rs says where it is looked
 //! for. `rustc` alone takes this file too, with `-L native=` the archive's folder.
 
 #![no_std]
