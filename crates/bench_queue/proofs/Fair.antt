@@ -13,7 +13,7 @@ use lib.Seq.{get_or-set_other, get_or-append-add}
 use Rattle.refusals.proofs.Refusals.{passed-all, wrote}
 use Rattle.bench_queue.specs.State.{waiting_at, most_waiting, in_range, queued, served}
 use Rattle.bench_queue.specs.Calls.{fresh, zero_record, new_tests, new_answer, deposit_answer, next_bench, coded_benches, after_blocks, block_limit, report_answer}
-use Rattle.bench_queue.specs.History.{Call, stepped, after_calls, listed_by, listed_all}
+use Rattle.bench_queue.specs.History.{Call, stepped, after_calls, listed_by, listed_all, ServedOrWaits}
 use Rattle.bench_queue.specs.History.Call.{Deposit, Turn, Report}
 use Rattle.bench_queue.specs.declared.BenchQueue.{BenchQueue}
 use Rattle.bench_queue.proofs.Range.{Ranged, truth, ranged, in-range}
@@ -25,7 +25,7 @@ use Rattle.bench_queue.proofs.Accepted.{Deposits, Refuses, deposit-cases, turn_s
 abbrev pub Stands : ℕ → ℕ → List ℕ → Type 0
 Stands d b list = (i : ℕ) × (i < d) × (i < length list) × (get_or list i 0 ≡ b)
 
--- bench b waits and is at block_limit d blocks away
+-- bench b waits and is at most d blocks away
 pub record Near (s : BenchQueue) (b d : ℕ) : Type 0 where
   pub waits : 0 < waiting_at s b
   pub some : 1 ≤ distance s.benches s.last b
@@ -114,17 +114,26 @@ calls-fair (c ∷ cs) s b d r l n =
     go (inl p) h = inl (p.0, p.1, omega (arith, p.2, length-append xs ys), get_or-append xs ys 0 p.0 p.2 ∙ p.3)
     go (inr p) h = late p.0 (h p.1)
 
--- whatever calls follow, and however the blocks fall into turns: once as many blocks are coded as there are benches, the bench that
--- waited stands among the first that many
-pub fair : (s : BenchQueue) (calls : List Call) (b : ℕ) → in_range s ≡ true → b < s.benches → 0 < waiting_at s b → s.benches ≤ length (listed_all s calls) → Stands s.benches b (listed_all s calls)
-fair s calls b e l w long = go (calls-fair calls s b s.benches r l (near s b s.benches r l w (distance-bounds s.benches s.last b r.inside l).1))
+-- whatever calls follow, and however the blocks fall into turns, a bench that waits is served
+-- within as many coded blocks as there are benches, or fewer are coded and it waits still
+pub served-or-waits : (s : BenchQueue) (calls : List Call) (b : ℕ) → in_range s ≡ true → b < s.benches → 0 < waiting_at s b → ServedOrWaits s.benches b s calls
+served-or-waits s calls b e l w = go (calls-fair calls s b s.benches r l (near s b s.benches r l w (distance-bounds s.benches s.last b r.inside l).1))
   where
     r : Ranged s
     r = ranged s e
 
-    go : Reached s.benches b (listed_all s calls) (after_calls s calls) → Stands s.benches b (listed_all s calls)
-    go (inl p) = p
-    go (inr p) = absurd (omega (arith, p.0, p.1.some, p.1.near))
+    go : Reached s.benches b (listed_all s calls) (after_calls s calls) → ServedOrWaits s.benches b s calls
+    go (inl p) = inl (record { place = p.0; within = p.1; listed = p.2; bench = p.3 })
+    go (inr p) = inr (record { fewer = omega (arith, p.1.some, p.1.near); waits = p.1.waits })
+
+-- so once as many blocks are coded as there are benches, the bench that waited stands among the
+-- first that many
+pub fair : (s : BenchQueue) (calls : List Call) (b : ℕ) → in_range s ≡ true → b < s.benches → 0 < waiting_at s b → s.benches ≤ length (listed_all s calls) → Stands s.benches b (listed_all s calls)
+fair s calls b e l w long = go (served-or-waits s calls b e l w)
+  where
+    go : ServedOrWaits s.benches b s calls → Stands s.benches b (listed_all s calls)
+    go (inl p) = (p.place, p.within, p.listed, p.bench)
+    go (inr p) = absurd (omega (arith, p.fewer))
 
 -- ---- the states that a new state leads to
 

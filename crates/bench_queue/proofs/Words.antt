@@ -19,7 +19,7 @@ use Rattle.bench_queue.proofs.Next.{nobody-waits, nobody-at}
 use Rattle.bench_queue.proofs.Blocks.{served-ranged}
 use Rattle.bench_queue.proofs.Accepted.{turn_status, Turns, turn-cases}
 
--- at block_limit m blocks are coded
+-- at most m blocks are coded
 pub coded-block_limit : (m : ℕ) (s : BenchQueue) → length (coded_benches m s) ≤ m
 unfolding coded_benches
 coded-block_limit zero s = omega arith
