@@ -33,9 +33,9 @@ static void compare(const JCOEF *stored, const JQUANT_TBL *table, int side, JSAM
         products16[n] = (int16_t)products[n];
         wide |= products[n] < -1024 || products[n] > 1023;
     }
-    uint32_t status = side == 8   ? jpeg_block_islow_block_i32(products, 64, samples, 64)
-                      : side == 4 ? jpeg_block_islow_block_4x4(products16, 64, samples, 16)
-                                  : jpeg_block_islow_block_2x2(products16, 64, samples, 4);
+    uint32_t status = side == 8   ? jpeg_block_islow_block_i32(products, 64, samples, 64, NULL, 0)
+                      : side == 4 ? jpeg_block_islow_block_4x4(products16, 64, samples, 16, NULL, 0)
+                                  : jpeg_block_islow_block_2x2(products16, 64, samples, 4, NULL, 0);
     if (status != 0) { fprintf(stderr, "libjpeg_compare: refused %u\n", (unsigned)status); exit(2); }
     for (int y = 0; y < side; y++) differs |= memcmp(rows[y] + left, samples + side * y, (size_t)side) != 0;
     struct tally *t = &tallies[side == 8 ? 0 : side == 4 ? 1 : 2];
@@ -185,7 +185,7 @@ static void alone(int coefficient, unsigned quantizer) {
     jpeg_destroy_decompress(&in);
     free(bytes);
     products[0] = coefficient * (int32_t)quantizer;
-    jpeg_block_islow_block_i32(products, 64, samples, 64);
+    jpeg_block_islow_block_i32(products, 64, samples, 64, NULL, 0);
     printf("DC %d alone: libjpeg %d, here %d\n", (int)products[0], row[0], samples[0]);
 }
 
