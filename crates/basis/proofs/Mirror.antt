@@ -7,7 +7,7 @@ use native.Mathlib.Decide.{dec_lt}
 use native.Mathlib.Omega.{arith}
 use borrow.Author.Tests.{lt-ltb, le-ltb}
 use lib.Dec.{eqb, ltb}
-use lib.IntN.{ℤ, neg_ℤ, neg_ℤ-neg_ℤ}
+use lib.IntN.{ℤ, neg_ℤ-neg_ℤ}
 use Rattle.basis.specs.Basis.{signed, entry, reflected, mirrors, basis}
 
 -- u is odd

@@ -3,7 +3,7 @@
 use mathlib.Core.Path.{◌≡◌, refl}
 use mathlib.Core.Bool.{true, false, cond}
 use mathlib.Core.List.{List, [], ◌∷◌, ◌++◌}
-use Prim.Native.Nat.{ℕ, zero, suc, ◌+◌, ◌-◌, ◌/◌, ◌%◌, ◌^◌, ◌≤◌, ◌<◌}
+use Prim.Native.Nat.{ℕ, zero, suc, ◌+◌, ◌-◌, ◌/◌, ◌%◌, ◌≤◌, ◌<◌}
 use native.Mathlib.Numerals.{add-one}
 use native.Mathlib.Omega.{arith}
 use borrow.Author.Tests.{lt-ltb, le-ltb, ltb-true}
@@ -29,15 +29,6 @@ pub digits_last : (k n : ℕ) → 0 < k → above k n ++ ((48 + n % 10) ∷ []) 
 unfolding digits
 digits_last zero n h = absurd (omega arith)
 digits_last (suc k) n h = let e : suc k - 1 ≡ k = omega arith in rw e refl
-
--- one digit fewer
-pub fewer : (k n : ℕ) → 10 ≤ n → n < 10 ^ k → (0 < k - 1) × (n / 10 < 10 ^ (k - 1))
-fewer zero n m h = absurd (omega arith)
-fewer (suc zero) n m h = absurd (omega arith)
-fewer (suc (suc k)) n m h =
-    let e : suc (suc k) - 1 ≡ suc k = omega arith in
-    let low : n / 10 < 10 ^ suc k = omega arith in
-    rw e (omega arith, low)
 
 -- ---- a number with its sign
 

@@ -8,6 +8,7 @@ use native.Mathlib.Omega.{arith}
 use lib.Dec.{eqb}
 use lib.ListN.{length, take, drop, take-append-drop}
 use borrow.Author.Tests.{eq-eqb, eqb-true}
+use Rattle.std.specs.Bool.{Decides}
 use Rattle.coefficient_text.specs.Lines.{digits}
 use Rattle.coefficient_text.specs.Text.{header, same, accepted}
 
@@ -28,12 +29,12 @@ same-eq (x ∷ xs) (y ∷ ys) h = go (eqb x y) refl h (same-eq xs ys)
     go false e h rest = let z : ◌≡◌ {A = ℕ} 0 1 = cc in absurd (omega arith)
 
 -- an answer that is yes just where the lists are equal
-pub decided : (r : Bool) (xs ys : List ℕ) → (r ≡ true → xs ≡ ys) → (xs ≡ ys → r ≡ true) → r ≡ same xs ys
-decided true xs ys a b = sym (ap (same xs) (sym (a refl)) ∙ same_refl xs)
-decided false xs ys a b = go (same xs ys) refl
+pub decided : (r : Bool) (xs ys : List ℕ) → Decides r (ys ≡ xs) → r ≡ same xs ys
+decided true xs ys d = sym (ap (same xs) (d.0 refl) ∙ same_refl xs)
+decided false xs ys d = go (same xs ys) refl
   where
     go : (t : Bool) → same xs ys ≡ t → false ≡ t
-    go true e = b (same-eq xs ys e)
+    go true e = d.1 (sym (same-eq xs ys e))
     go false e = refl
 
 -- the header of a PGM ("P5", width and height, maxval) of 8 × 8 samples to 255, its numbers in numeral

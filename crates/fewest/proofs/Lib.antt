@@ -6,3 +6,4 @@ pub mod Tiles
 pub mod Trials
 pub mod Answers
 pub mod Theorems
+pub mod PlaneSums

@@ -10,7 +10,7 @@ use lib.Pow.{pow_pos}
 use mir.Syntax.{Width}
 use mir.Val.{SFits, bits, hbits, to_z, of_z, sel}
 use mir.ValLaws.{to_z-of_z, to_z-Fits, of_z_fits, half_full}
-use Rattle.integers.specs.Wrap.{modulo, wrap}
+use Rattle.integers.specs.Wrap.{wrap}
 use Rattle.integers.proofs.Difference.{dif-eq, differences}
 use Rattle.integers.proofs.Congruence.{Congruent, equal, itself, inverse, then, plus, minus, times, modulo-lt, modulo-congruent, modulo-unique, modulo-cong}
 

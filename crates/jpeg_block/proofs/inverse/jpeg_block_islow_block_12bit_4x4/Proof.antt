@@ -1,7 +1,0 @@
--- `jpeg_block::inverse::jpeg_block_islow_block_12bit_4x4` meets its contract, which is that of `islow_block_12bit_4x4`. Assumes nothing.
-use borrow.Author.Rules.{rules}
-use Rattle.jpeg_block.proofs.inverse.jpeg_block_islow_block_12bit_4x4.Statement.{statement}
-use Rattle.jpeg_block.proofs.inverse.jpeg_block_islow_block_12bit_4x4.Tie as tie
-
-pub jpeg-block-islow-block-12bit-4x4-spec : {M : Type 1} → statement M
-jpeg-block-islow-block-12bit-4x4-spec = tie.close (tie.spec (λ _ _. tt) (λ c. search rules) (λ c. c.before.before.islow-block-12bit-4x4.ensures))
