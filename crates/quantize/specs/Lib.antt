@@ -1,1 +1,2 @@
 pub mod Quantize
+pub mod Divided
