@@ -98,7 +98,7 @@ fn count_nonzeros(coefficients: &[i16; 64]) -> u32
     ensures upper_bound { result ≤ 64 }
 {
     let mut count = 0;
-    let mut n = 0;
+    let mut n: usize = 0;
     while n < 64 {
         count += one_if_nonzero(coefficients[n]);
         n += 1;

@@ -75,7 +75,7 @@ fn no_shortcut(input: &[i32]) -> bool
     ensures { result ≡ every (λ p. not (zero_at eight.ac p)) (tab 8 (column_of (first_rows 8 input.now))) }
 {
     let mut all = true;
-    let mut u = 0;
+    let mut u: usize = 0;
     while u < 8 {
         all = !ac_is_zero(load_column_i32(input, 8, u)) & all;
         u += 1;
@@ -89,7 +89,7 @@ fn no_shortcut_top_half(input: &[i32]) -> bool
     ensures { result ≡ every (λ p. not (zero_at eight.ac p)) (tab 8 (column_of (first_rows 4 input.now))) }
 {
     let mut all = true;
-    let mut u = 0;
+    let mut u: usize = 0;
     while u < 8 {
         all = !ac_is_zero(load_column_i32(input, 4, u)) & all;
         u += 1;

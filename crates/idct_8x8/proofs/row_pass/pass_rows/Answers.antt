@@ -7,15 +7,8 @@ pub pass_rows_as_i16-requires : goal.pass_rows_as_i16-requires
 pass_rows_as_i16-requires c =
     record { r_len = c.requires.1; every = all_fit c.args.w.now c.columns_fit.ensures c.if-columns_fit.true }
 
-pub full_rows-requires : goal.full_rows-requires
-full_rows-requires c =
-    record { r_len = c.requires.1; t = subst T (sym c.if-no_shortcut.true ∙ c.no_shortcut.ensures) tt }
-
 pub returns-then-columns_fit : goal.returns-then-columns_fit
 returns-then-columns_fit c = λ _. c.pass_rows_as_i16.ensures
-
-pub returns-then-no_shortcut : goal.returns-then-no_shortcut
-returns-then-no_shortcut c = λ _. c.full_rows.ensures
 
 pub returns : goal.returns
 returns c = λ e. absurd (subst T (sym e) tt)
