@@ -1,4 +1,5 @@
-/* JPEG 8x8 block transforms, and whole planes: the functions of libjpeg_block.a, which `rt lib` in crates/jpeg_block writes (x86-64 Linux).
+/* JPEG 8x8 block transforms, and whole planes: the functions of libjpeg_block.a, which `rt lib` in crates/jpeg_block writes
+ * (Linux, for processors from x86-64-v2 on).
  *
  * A block is 64 numbers in natural order: index 8v + u for frequencies, 8y + x for samples (u and x across). A quantizer table is 64
  * quantizers in the same order; a quantizer 0 counts as 1, but for the guarded quantizer, which refuses it.
