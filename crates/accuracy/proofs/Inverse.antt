@@ -21,7 +21,7 @@ use Rattle.gains.specs.Gains.{mirror, mirrored, upper, gains}
 use Rattle.clamping.specs.Clamping.{clamp_to, sample_u8}
 use Rattle.passes.specs.Passes.{eight, pass, column_pass}
 use Rattle.block.specs.Bound.{AtMost}
-use Rattle.block.specs.Block.{column_of, columns, row_of, row_samples, samples, block}
+use Rattle.block.specs.Block.{column_of, columns, row_of, row_at, row_samples, samples, block}
 use Rattle.block.proofs.Exact.{light}
 use Rattle.block.proofs.Column.{column-eight}
 use Rattle.block.proofs.Row.{row-eight}
@@ -61,7 +61,7 @@ module _ (D : List ℤ) (small : AtMost 1151 D) where
     work-size u h = column-size (work y u) (sum_by (column u) y) (column-near u h) (sum-size (column u) 1151 (λ k b. small (8 * k + u)) y hy)
 
     number-pass : row_number D x y ≡ get_or (pass w32 gains 18 (tab 8 (work y))) x (pos 0)
-    unfolding row_number row_of
+    unfolding row_number row_at
     number-pass =
         ap (λ (p : List ℤ). get_or p x (pos 0))
         (sym (row-eight (tab 8 (work y)) (length-tab 8 (work y)) (rw (get_d-tab 8 (work y) (pos 0) 0 (lit< tt)) (omega (arith, work-size 0 (lit< tt))))))

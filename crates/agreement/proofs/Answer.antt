@@ -10,11 +10,13 @@ use lib.Dec.{eqb}
 use lib.ListN.{get_or}
 use lib.Ieee.{Float}
 use Rattle.refusals.specs.Refusals.{status, written}
+use Rattle.refusals.specs.Numbers.{Answer}
 use Rattle.refusals.proofs.Refusals.{wrote, passed, passed-all}
-use Rattle.forward.specs.Canonical.{Bytes, canonical, coefficients, coefficients_at}
-use Rattle.guarded_quantizer.specs.Divisors.{reciprocals, table_tests, zero_divisors, divisors_answer}
+use Rattle.forward.specs.Canonical.{Bytes, canonical, coefficients_at}
+use Rattle.guarded_quantizer.specs.Divisors.{reciprocals, table_tests, made_divisors, zero_divisors, divisors_answer}
+use Rattle.guarded_quantizer.specs.declared.QuantizedBlock.{QuantizedBlock}
 use Rattle.guarded_quantizer.specs.Record.{record_of}
-use Rattle.guarded_quantizer.specs.Answer.{coefficients_of, guarded_tests, quantized, zero_record, guarded_answer}
+use Rattle.guarded_quantizer.specs.Answer.{coefficients_of, guarded_tests, zero_record, guarded_answer}
 use Rattle.guarded_quantizer.proofs.Zero.{no_zero}
 use Rattle.guarded_quantizer.proofs.Record.{record-tab}
 use Rattle.agreement.specs.Agreement.{Quantizers, canonical_answer}
@@ -39,8 +41,11 @@ module _ (block quant : List ℕ) (samples : (i : ℕ) → get_or block i 0 ≤ 
   -- whatever the lengths and the quantizers: a call that is refused answers zeros
   by-divisors : (rs : List Float) → (status (guarded_tests block quant) ≡ 0 → rs ≡ reciprocals quant) → guarded_answer block quant rs ≡ canonical_answer block quant
   unfolding guarded_answer canonical_answer written
-  by-divisors rs made = ap (quantized (status (guarded_tests block quant))) (go (eqb (status (guarded_tests block quant)) 0) refl)
+  by-divisors rs made = ap answered (go (eqb (status (guarded_tests block quant)) 0) refl)
     where
+      answered : QuantizedBlock → Answer QuantizedBlock
+      answered r = record { status = status (guarded_tests block quant); value = r }
+
       go : (b : Bool) → eqb (status (guarded_tests block quant)) 0 ≡ b → cond b (record_of quant (coefficients_of block quant rs)) zero_record ≡ cond b (record_of quant (canonical block quant)) zero_record
       go true e = let z = eqb-true _ _ e in ap (λ (l : List Float). record_of quant (coefficients_of block quant l)) (made z) ∙ same-record z
       go false e = refl
@@ -49,8 +54,8 @@ module _ (block quant : List ℕ) (samples : (i : ℕ) → get_or block i 0 ≤ 
   same_answer = by-divisors (reciprocals quant) (λ _. refl)
 
   -- with what `quantization_divisors` answers
-  pub made-answer : guarded_answer block quant (divisors_answer quant).divisors.reciprocals ≡ canonical_answer block quant
+  pub made-answer : guarded_answer block quant (divisors_answer quant).value.reciprocals ≡ canonical_answer block quant
   unfolding divisors_answer
   made-answer =
-      by-divisors (divisors_answer quant).divisors.reciprocals (λ e.
-      sym (wrote (reciprocals quant) zero_divisors (sym (passed (table_tests quant) (passed-all (guarded_tests block quant) tt e).1)) refl))
+      by-divisors (divisors_answer quant).value.reciprocals (λ e.
+      ap (λ d. d.reciprocals) (sym (wrote (made_divisors (reciprocals quant)) (made_divisors zero_divisors) (sym (passed (table_tests quant) (passed-all (guarded_tests block quant) tt e).1)) refl)))

@@ -11,7 +11,7 @@ ghost use Rattle.lists.specs.Tab.{tab};
 ghost use Rattle.basis.specs.Basis.{basis_table};
 
 // Entry 16n + 4·row + column.
-const BASIS: [i32; 1024] = [
+static BASIS: [i32; 1024] = [
     536870912,
     536870912,
     536870912,
@@ -1046,91 +1046,22 @@ pub fn basis_table() -> [i32; 1024]
     BASIS
 }
 
-// The 16 entries of frequency n in a table.
-fn row_at(table: &[i32; 1024], n: usize) -> [i32; 16]
-    requires { n < 64 }
-    ensures { result ≡ tab 16 (λ k. get_or table.now (16 * n + k) (pos 0)) }
+// BASIS where it lies, in read-only memory.
+fn table() -> &'static [i32; 1024]
+    ensures { result.now ≡ basis_table }
 {
-    let mut row = [0i32; 16];
-    let mut k = 0;
-    while k < 16 {
-        row[k] = table[16 * n + k];
-        k += 1;
-    }
-    row
+    &BASIS
 }
 
-// The 16 entries of frequency n in BASIS. Each arm reads places known in advance, so the compiler keeps BASIS in read-only memory and
-// loads the row from there; read at 16n + k it would be written to the stack first, whole.
+// The 16 entries of frequency n, read in place.
 pub fn basis_row(n: usize) -> [i32; 16]
     requires { n < 64 }
     ensures { result ≡ tab 16 (λ k. get_or basis_table (16 * n + k) (pos 0)) }
 {
-    let table = basis_table();
-    match n {
-        0 => row_at(&table, 0),
-        1 => row_at(&table, 1),
-        2 => row_at(&table, 2),
-        3 => row_at(&table, 3),
-        4 => row_at(&table, 4),
-        5 => row_at(&table, 5),
-        6 => row_at(&table, 6),
-        7 => row_at(&table, 7),
-        8 => row_at(&table, 8),
-        9 => row_at(&table, 9),
-        10 => row_at(&table, 10),
-        11 => row_at(&table, 11),
-        12 => row_at(&table, 12),
-        13 => row_at(&table, 13),
-        14 => row_at(&table, 14),
-        15 => row_at(&table, 15),
-        16 => row_at(&table, 16),
-        17 => row_at(&table, 17),
-        18 => row_at(&table, 18),
-        19 => row_at(&table, 19),
-        20 => row_at(&table, 20),
-        21 => row_at(&table, 21),
-        22 => row_at(&table, 22),
-        23 => row_at(&table, 23),
-        24 => row_at(&table, 24),
-        25 => row_at(&table, 25),
-        26 => row_at(&table, 26),
-        27 => row_at(&table, 27),
-        28 => row_at(&table, 28),
-        29 => row_at(&table, 29),
-        30 => row_at(&table, 30),
-        31 => row_at(&table, 31),
-        32 => row_at(&table, 32),
-        33 => row_at(&table, 33),
-        34 => row_at(&table, 34),
-        35 => row_at(&table, 35),
-        36 => row_at(&table, 36),
-        37 => row_at(&table, 37),
-        38 => row_at(&table, 38),
-        39 => row_at(&table, 39),
-        40 => row_at(&table, 40),
-        41 => row_at(&table, 41),
-        42 => row_at(&table, 42),
-        43 => row_at(&table, 43),
-        44 => row_at(&table, 44),
-        45 => row_at(&table, 45),
-        46 => row_at(&table, 46),
-        47 => row_at(&table, 47),
-        48 => row_at(&table, 48),
-        49 => row_at(&table, 49),
-        50 => row_at(&table, 50),
-        51 => row_at(&table, 51),
-        52 => row_at(&table, 52),
-        53 => row_at(&table, 53),
-        54 => row_at(&table, 54),
-        55 => row_at(&table, 55),
-        56 => row_at(&table, 56),
-        57 => row_at(&table, 57),
-        58 => row_at(&table, 58),
-        59 => row_at(&table, 59),
-        60 => row_at(&table, 60),
-        61 => row_at(&table, 61),
-        62 => row_at(&table, 62),
-        _ => row_at(&table, 63),
+    let table = table();
+    let mut row = [0i32; 16];
+    for k in 0..16 {
+        row[k] = table[16 * n + k];
     }
+    row
 }

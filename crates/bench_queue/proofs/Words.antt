@@ -9,11 +9,13 @@ use borrow.Author.Tests.{ltb-true, ltb-false}
 use lib.Dec.{ltb, eqb}
 use lib.ListN.{length, get_or, drop}
 use lib.Seq.{get_or-append-add, get_or-drop}
+use Rattle.std.specs.Prelude.{Option, Some, None}
 use Rattle.refusals.specs.Refusals.{written}
 use Rattle.bench_queue.specs.State.{waiting_at, nobody_waits, served}
 use Rattle.bench_queue.specs.Calls.{next_bench, coded_benches, after_blocks, block_limit, word_of, turn_answer, overwritten, turn_output}
 use Rattle.bench_queue.specs.declared.BenchQueue.{BenchQueue}
-use Rattle.bench_queue.specs.declared.Word.TheVariants.{Spent, Idle, Neither}
+use Rattle.bench_queue.specs.declared.Word.{Word}
+use Rattle.bench_queue.specs.declared.Word.TheVariants.{Spent, Idle}
 use Rattle.bench_queue.proofs.Range.{Ranged}
 use Rattle.bench_queue.proofs.Next.{nobody-waits, nobody-at}
 use Rattle.bench_queue.proofs.Blocks.{served-ranged}
@@ -43,24 +45,24 @@ spent-coded (suc m) s r e = go (ltb (next_bench s) s.benches) refl (λ h. spent-
     go false t h f = let no : true ≡ false = sym (nobody-waits s r (ltb-false _ _ t)) ∙ f in let z : ◌≡◌ {A = ℕ} 0 1 = cc in absurd (omega arith)
 
 -- "Every accepted turn reports one word": "idle" exactly when nobody waits after it, also where both hold, and else "spent"
-pub accepted-word : (s : BenchQueue) (l : ℕ) (out : List ℕ) → (turn_answer s l out).status ≡ 0 → (turn_answer s l out).word ≡ cond (nobody_waits (turn_answer s l out).state) Idle Spent
+pub accepted-word : (s : BenchQueue) (l : ℕ) (out : List ℕ) → (turn_answer s l out).status ≡ 0 → (turn_answer s l out).word ≡ Some (cond (nobody_waits (turn_answer s l out).state) Idle Spent)
 unfolding turn_answer written word_of
 accepted-word s l out e = simp e
 
 -- "a refused deposit or turn gives back the state it was given, the turn with neither word"
-pub refused-turn : (s : BenchQueue) (l : ℕ) (out : List ℕ) → eqb (turn_answer s l out).status 0 ≡ false → ((turn_answer s l out).word ≡ Neither) × ((turn_answer s l out).state ≡ s) × ((turn_answer s l out).listed ≡ 0)
+pub refused-turn : (s : BenchQueue) (l : ℕ) (out : List ℕ) → eqb (turn_answer s l out).status 0 ≡ false → ((turn_answer s l out).word ≡ None) × ((turn_answer s l out).state ≡ s) × ((turn_answer s l out).listed ≡ 0)
 unfolding turn_answer written
 refused-turn s l out e = simp e (refl, refl, refl)
 
 -- "spent" only after coding exactly L blocks, and then somebody waits
-pub spent : (s : BenchQueue) (l : ℕ) (out : List ℕ) → (turn_answer s l out).word ≡ Spent → ((turn_answer s l out).status ≡ 0) × ((turn_answer s l out).listed ≡ min l 4096) × (nobody_waits (turn_answer s l out).state ≡ false)
+pub spent : (s : BenchQueue) (l : ℕ) (out : List ℕ) → (turn_answer s l out).word ≡ Some Spent → ((turn_answer s l out).status ≡ 0) × ((turn_answer s l out).listed ≡ min l 4096) × (nobody_waits (turn_answer s l out).state ≡ false)
 unfolding turn_answer written word_of block_limit
 spent s l out e = go (turn-cases s l out)
   where
     m : ℕ
     m = min l 4096
 
-    word : (t : Bool) → cond t Idle Spent ≡ Spent → t ≡ false
+    word : (t : Bool) → ◌≡◌ {A = Option Word} (Some (cond t Idle Spent)) (Some Spent) → t ≡ false
     word true f = let z : ◌≡◌ {A = ℕ} 0 1 = cc in absurd (omega arith)
     word false f = refl
 
@@ -71,11 +73,11 @@ spent s l out e = go (turn-cases s l out)
     go (inr t) = let no = rw t at e in let z : ◌≡◌ {A = ℕ} 0 1 = cc in absurd (omega arith)
 
 -- "idle" only when nobody waits
-pub idle : (s : BenchQueue) (l : ℕ) (out : List ℕ) → (turn_answer s l out).word ≡ Idle → ((turn_answer s l out).status ≡ 0) × ((b : ℕ) → b < 8 → waiting_at (turn_answer s l out).state b ≡ 0)
+pub idle : (s : BenchQueue) (l : ℕ) (out : List ℕ) → (turn_answer s l out).word ≡ Some Idle → ((turn_answer s l out).status ≡ 0) × ((b : ℕ) → b < 8 → waiting_at (turn_answer s l out).state b ≡ 0)
 unfolding turn_answer written word_of
 idle s l out e = go (turn-cases s l out)
   where
-    word : (t : Bool) → cond t Idle Spent ≡ Idle → t ≡ true
+    word : (t : Bool) → ◌≡◌ {A = Option Word} (Some (cond t Idle Spent)) (Some Idle) → t ≡ true
     word true f = refl
     word false f = let z : ◌≡◌ {A = ℕ} 0 1 = cc in absurd (omega arith)
 

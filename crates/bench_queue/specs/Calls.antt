@@ -1,13 +1,11 @@
 -- Document 02, card 11: what each call answers, and what a turn leaves in its output.
-use Rattle.std.specs.Prelude.{cond, ◌&&◌, List, [], ◌∷◌, ◌++◌, ℕ, zero, suc, ◌+◌, ◌-◌, min, leb, ltb, length, drop, replicate}
+use Rattle.std.specs.Prelude.{cond, ◌&&◌, List, [], ◌∷◌, ◌++◌, ℕ, zero, suc, ◌+◌, ◌-◌, min, leb, ltb, length, drop, replicate, Some, None}
 use Rattle.refusals.specs.Refusals.{Test, ◌unless◌, ◌of◌, status, written}
 use Rattle.bench_queue.specs.State.{waiting_at, in_range, nobody_waits, queued, served}
 use Rattle.bench_queue.specs.declared.BenchQueue.{BenchQueue}
-use Rattle.bench_queue.specs.declared.Updated.{Updated}
-use Rattle.bench_queue.specs.declared.Turned.{Turned}
-use Rattle.bench_queue.specs.declared.Reported.{Reported}
+use Rattle.bench_queue.specs.Told.{Updated, Turned, Reported}
 use Rattle.bench_queue.specs.declared.Word.{Word}
-use Rattle.bench_queue.specs.declared.Word.TheVariants.{Spent, Idle, Neither}
+use Rattle.bench_queue.specs.declared.Word.TheVariants.{Spent, Idle}
 
 -- ---- new
 
@@ -84,7 +82,7 @@ turn_answer s l out =
       status = r;
       state = written r after s;
       listed = written r (length (coded_benches (block_limit l) s)) 0;
-      word = written r (word_of after) Neither;
+      word = written r (Some (word_of after)) None;
     }
 
 -- the listed places, "and writes no other place"

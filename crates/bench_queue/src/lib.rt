@@ -6,11 +6,14 @@
 
 #![tactic(auto)]
 
-ghost use Rattle.std.specs.Prelude.{◌≡◌, true, ◌≤◌, ◌<◌, length};
+ghost use Rattle.std.specs.Prelude.{◌≡◌, true, ◌≤◌, ◌<◌, length, Err};
 ghost use Rattle.bench_queue.specs.State.{waiting_at, most_waiting, counts_fit, in_range, served};
 ghost use Rattle.bench_queue.specs.Calls.{zero_record, new_answer, deposit_answer, following, next_bench, coded_benches, after_blocks, overwritten, word_of, block_limit, turn_answer, turn_output, report_answer};
+ghost use Rattle.bench_queue.specs.Told.{updated, turned, reported};
 
-#[derive(Clone, Copy)]
+use refusals::Refusal;
+
+#[derive(Clone, Copy, Debug, PartialEq, Eq)]
 pub struct BenchQueue {
     pub benches: u32,
     // The bench last served.
@@ -19,43 +22,29 @@ pub struct BenchQueue {
     pub waiting: [u32; 8],
 }
 
-// What a new state and a deposit answer: 0 or a refusal's number, and the state.
-#[derive(Clone, Copy)]
-pub struct Updated {
-    pub status: u32,
+// What a call gives: the new state, and what the call answers. A refusal comes with a state too
+// (card 11): the one that was given, or the zero record.
+#[derive(Clone, Copy, Debug, PartialEq, Eq)]
+pub struct Called<T> {
     pub state: BenchQueue,
+    pub outcome: Result<T, Refusal>,
 }
 
-// What an accepted turn says; a refused one says neither word.
-#[derive(Clone, Copy)]
+#[derive(Clone, Copy, Debug, PartialEq, Eq)]
 pub enum Word {
     Spent,
     Idle,
-    Neither,
 }
 
-#[derive(Clone, Copy)]
-pub struct Turned {
-    pub status: u32,
-    pub state: BenchQueue,
+// What an accepted turn answers.
+#[derive(Clone, Copy, Debug, PartialEq, Eq)]
+pub struct Coded {
     // The number of places listed.
     pub listed: u32,
     pub word: Word,
 }
 
-#[derive(Clone, Copy)]
-pub struct Reported {
-    pub status: u32,
-    pub state: BenchQueue,
-    pub waiting: [u32; 8],
-}
-
-#[derive(Clone, Copy)]
-struct Coded {
-    state: BenchQueue,
-    listed: u32,
-}
-
+#[tactic(auto, unfolding(crate::specs::State::most_waiting))]
 fn most_waiting(benches: u32, b: u32) -> u32
     ensures { result ≡ most_waiting benches b }
 {
@@ -63,6 +52,7 @@ fn most_waiting(benches: u32, b: u32) -> u32
 }
 
 // The bench after `b` in cyclic order.
+#[tactic(auto, unfolding(crate::specs::Calls::following))]
 fn following_bench(benches: u32, b: u32) -> u32
     requires { b < benches }
     ensures { result ≡ following benches b }
@@ -71,104 +61,89 @@ fn following_bench(benches: u32, b: u32) -> u32
 }
 
 // More blocks than 4096 act as 4096.
+#[tactic(auto, unfolding(crate::specs::Calls::block_limit))]
 fn block_limit(l: u32) -> usize
     ensures { result ≡ block_limit l }
 {
-    if l < 4096 { l as usize } else { 4096 }
+    l.min(4096) as usize
 }
 
 impl BenchQueue {
+    #[tactic(auto, unfolding(crate::specs::State::counts_fit, lists::specs::Below::below))]
     fn counts_fit(self) -> bool
         ensures { result ≡ counts_fit self }
     {
-        let benches = self.benches;
         let mut fit = true;
-        let mut b = 0;
-        while b < 8 {
-            fit = (self.waiting[b] <= most_waiting(benches, b as u32)) & fit;
-            b += 1;
+        for b in 0..8 {
+            fit &= self.waiting[b] <= most_waiting(self.benches, b as u32);
         }
         fit
     }
 
+    #[tactic(auto, unfolding(crate::specs::State::in_range))]
     fn in_range(self) -> bool
         ensures { result ≡ in_range self }
     {
-        let benches = self.benches;
-        let last = self.last;
-        if benches < 1 {
-            return false;
-        }
-        if 8 < benches {
-            return false;
-        }
-        if benches <= last {
-            return false;
-        }
-        self.counts_fit()
+        1 <= self.benches && self.benches <= 8 && self.last < self.benches && self.counts_fit()
     }
 
+    #[tactic(auto, unfolding(crate::specs::Calls::zero_record))]
     fn zero_record() -> BenchQueue
         ensures { result ≡ zero_record }
     {
         BenchQueue {
             benches: 0,
             last: 0,
-            waiting: [0u32; 8],
+            waiting: [0; 8],
         }
     }
 
-    pub fn new(benches: u32) -> Updated
-        ensures { result ≡ new_answer benches }
+    fn refused<T>(self, refusal: Refusal) -> Called<T>
+        ensures state_value { result.state ≡ self }
+        ensures outcome_value { result.outcome ≡ Err refusal }
     {
-        if benches < 1 {
-            return Updated {
-                status: 13,
-                state: BenchQueue::zero_record(),
-            };
+        Called {
+            state: self,
+            outcome: Err(refusal),
         }
-        if 8 < benches {
-            return Updated {
-                status: 13,
-                state: BenchQueue::zero_record(),
-            };
+    }
+
+    #[tactic(auto, unfolding(crate::specs::Calls::new_answer, crate::specs::Calls::fresh, refusals::specs::Refusals::status, refusals::specs::Refusals::written))]
+    pub fn new(benches: u32) -> Called<()>
+        ensures { updated result ≡ new_answer benches }
+    {
+        if benches < 1 || 8 < benches {
+            return BenchQueue::zero_record().refused(Refusal::State);
         }
-        Updated {
-            status: 0,
+        Called {
             state: BenchQueue {
                 benches,
                 last: benches - 1,
-                waiting: [0u32; 8],
+                waiting: [0; 8],
             },
+            outcome: Ok(()),
         }
     }
 
-    pub fn deposit(self, bench: u32, blocks: u32) -> Updated
-        ensures { result ≡ deposit_answer self bench blocks }
+    #[tactic(auto, unfolding(crate::specs::Calls::deposit_answer, crate::specs::State::queued, refusals::specs::Refusals::status, refusals::specs::Refusals::written))]
+    pub fn deposit(mut self, bench: u32, blocks: u32) -> Called<()>
+        ensures { updated result ≡ deposit_answer self bench blocks }
     {
         if !self.in_range() {
-            return Updated {
-                status: 13,
-                state: self,
-            };
+            return self.refused(Refusal::State);
         }
         if self.benches <= bench {
-            return Updated {
-                status: 13,
-                state: self,
-            };
+            return self.refused(Refusal::State);
         }
-        let b = bench as usize;
-        let waiting = self.waiting[b];
+        let waiting = self.waiting[bench as usize];
         if 65535 - waiting < blocks {
-            return Updated {
-                status: 14,
-                state: self,
-            };
+            return self.refused(Refusal::Full);
         }
-        let mut state = self;
-        state.waiting[b] = waiting + blocks;
-        Updated { status: 0, state }
+        self.waiting[bench as usize] = waiting + blocks;
+        Called {
+            state: self,
+            outcome: Ok(()),
+        }
     }
 
     // The next waiting bench in cyclic order after the one last served; the bench count where nobody waits.
@@ -177,119 +152,92 @@ impl BenchQueue {
         requires benches_bound { self.benches ≤ 8 }
         ensures { result ≡ next_bench self }
     {
-        let benches = self.benches;
         let mut b = self.last;
-        let mut left = benches;
-        while 0 < left {
-            b = following_bench(benches, b);
+        for _ in 0..self.benches {
+            b = following_bench(self.benches, b);
             if 0 < self.waiting[b as usize] {
                 return b;
             }
-            left -= 1;
         }
-        benches
+        self.benches
     }
 
     // One block of bench `b` is coded.
-    fn serve(self, b: u32) -> BenchQueue
+    #[tactic(auto, unfolding(crate::specs::State::served))]
+    fn serve(mut self, b: u32) -> BenchQueue
         requires b_bound { b < 8 }
         requires b_nonzero { 0 < waiting_at self b }
         ensures { result ≡ served self b }
     {
-        let mut state = self;
-        let place = b as usize;
-        let waiting = state.waiting[place];
-        state.waiting[place] = waiting - 1;
-        state.last = b;
-        state
+        self.waiting[b as usize] -= 1;
+        self.last = b;
+        self
     }
 
-    // Up to `l` blocks, one at a time, each listed in the next place of `out`.
-    fn code_blocks(self, l: usize, out: &mut [u8]) -> Coded
+    // Up to `l` blocks, one at a time, each listed in the next place of `out`: the new state, and how
+    // many were listed.
+    fn code_blocks(self, l: usize, out: &mut [u8]) -> (BenchQueue, usize)
         requires self_value { in_range self ≡ true }
         requires l_bound { l ≤ 4096 }
         requires out_len { length out.old ≡ 4096 }
-        ensures state_value { result.state ≡ after_blocks l self }
-        ensures listed_value { result.listed ≡ length (coded_benches l self) }
+        ensures state_value { result.0 ≡ after_blocks l self }
+        ensures listed_value { result.1 ≡ length (coded_benches l self) }
         ensures out_after { out.new ≡ overwritten (coded_benches l self) out.old }
     {
         let mut state = self;
-        let mut listed: usize = 0;
-        while listed < l {
+        for listed in 0..l {
             let b = state.next_bench();
             if state.benches <= b {
-                return Coded {
-                    state,
-                    listed: listed as u32,
-                };
+                return (state, listed);
             }
             out[listed] = b as u8;
             state = state.serve(b);
-            listed += 1;
         }
-        Coded {
-            state,
-            listed: listed as u32,
-        }
+        (state, l)
     }
 
     fn word(self) -> Word
         requires { in_range self ≡ true }
         ensures { result ≡ word_of self }
     {
-        let benches = self.benches;
-        if self.next_bench() < benches {
+        if self.next_bench() < self.benches {
             Word::Spent
         } else {
             Word::Idle
         }
     }
 
-    pub fn turn(self, l: u32, out: &mut [u8]) -> Turned
-        ensures value { result ≡ turn_answer self l out.old }
+    #[tactic(auto, unfolding(crate::specs::Calls::turn_answer, crate::specs::Calls::turn_output, refusals::specs::Refusals::status, refusals::specs::Refusals::written))]
+    pub fn turn(self, l: u32, out: &mut [u8]) -> Called<Coded>
+        ensures value { turned result ≡ turn_answer self l out.old }
         ensures out_after { out.new ≡ turn_output self l out.old }
     {
         if !self.in_range() {
-            return Turned {
-                status: 13,
-                state: self,
-                listed: 0,
-                word: Word::Neither,
-            };
+            return self.refused(Refusal::State);
         }
         if out.len() != 4096 {
-            return Turned {
-                status: 3,
-                state: self,
-                listed: 0,
-                word: Word::Neither,
-            };
+            return self.refused(Refusal::Output);
         }
-        let coded = self.code_blocks(block_limit(l), out);
-        let state = coded.state;
-        Turned {
-            status: 0,
+        let (state, listed) = self.code_blocks(block_limit(l), out);
+        Called {
             state,
-            listed: coded.listed,
-            word: state.word(),
+            outcome: Ok(Coded {
+                listed: listed as u32,
+                word: state.word(),
+            }),
         }
     }
 
-    pub fn report(self) -> Reported
-        ensures { result ≡ report_answer self }
+    #[tactic(auto, unfolding(crate::specs::Calls::report_answer, refusals::specs::Refusals::status, refusals::specs::Refusals::written))]
+    pub fn report(self) -> Called<[u32; 8]>
+        ensures { reported result ≡ report_answer self }
     {
         if self.in_range() {
-            let waiting = self.waiting;
-            return Reported {
-                status: 0,
+            return Called {
                 state: self,
-                waiting,
+                outcome: Ok(self.waiting),
             };
         }
-        Reported {
-            status: 13,
-            state: self,
-            waiting: [0u32; 8],
-        }
+        self.refused(Refusal::State)
     }
 }

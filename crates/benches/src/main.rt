@@ -9,78 +9,48 @@ ghost use Rattle.std.specs.Prelude.{◌≤◌};
 
 use bench_queue::{BenchQueue, Word};
 use fdct::fdct_quantize;
-use std::io;
-
-fn text(rt: &impl Print, words: &str) -> io::Result<()> {
-    rt.print(words)
-}
-
-fn number(rt: &impl Print, label: &str, n: u32) -> io::Result<()> {
-    print!(rt; "{label}{n}")
-}
-
-fn coefficient(rt: &impl Print, c: i16) -> io::Result<()> {
-    print!(rt; " {c}")
-}
+use refusals::Refusal;
+use std::{array, io};
 
 // Bench b's samples: a ramp across, brighter with b and with the place k in the turn's list.
-fn sample(b: u8, k: u8, n: u8) -> u8 {
-    64 + 8 * (n % 8) + 8 * (b % 8) + 4 * (k % 8)
-}
-
 fn samples(b: u8, k: u8) -> [u8; 64] {
-    let mut block = [0u8; 64];
-    for n in 0..64u8 {
-        block[n as usize] = sample(b, k, n);
-    }
-    block
+    array::from_fn(|n| 64 + 8 * (n % 8) as u8 + 8 * (b % 8) + 4 * (k % 8))
 }
 
 fn code_block(rt: &impl Print, b: u8, k: u8) -> io::Result<()> {
-    let block = samples(b, k);
     let table = [8 * (b % 8) + 8; 64];
     let mut coefficients = [0i16; 64];
-    fdct_quantize(&block, &table, &mut coefficients);
-    number(rt, "  bench ", b as u32)?;
-    text(rt, ":")?;
-    show(rt, &coefficients)
+    let _ = fdct_quantize(&samples(b, k), &table, &mut coefficients);
+    let c = &coefficients;
+    println!(rt; "  bench {b}: {} {} {} {}", c[0], c[1], c[8], c[9])
 }
 
-fn show(rt: &impl Print, coefficients: &[i16; 64]) -> io::Result<()> {
-    coefficient(rt, coefficients[0])?;
-    coefficient(rt, coefficients[1])?;
-    coefficient(rt, coefficients[8])?;
-    coefficient(rt, coefficients[9])?;
-    text(rt, "\n")
-}
-
-fn code_listed(rt: &impl Print, out: &[u8; 4096], listed: u32) -> io::Result<()> {
-    for (i, b) in out.iter().enumerate() {
-        if i < listed as usize {
-            code_block(rt, *b, (i % 8) as u8)?;
-        }
+fn code_listed(rt: &impl Print, listed: &[u8]) -> io::Result<()> {
+    for (i, b) in listed.iter().enumerate() {
+        code_block(rt, *b, (i % 8) as u8)?;
     }
     Ok(())
 }
 
-fn word(rt: &impl Print, w: Word) -> io::Result<()> {
+fn word(w: Word) -> &'static str {
     match w {
-        Word::Spent => text(rt, ", spent\n"),
-        Word::Idle => text(rt, ", idle\n"),
-        Word::Neither => text(rt, "\n"),
+        Word::Spent => ", spent",
+        Word::Idle => ", idle",
     }
 }
 
-fn status(rt: &impl Print, n: u32) -> io::Result<()> {
-    number(rt, ": ", n)
+// 0, or the number of the refusal.
+fn status<T: Drop>(outcome: &Result<T, Refusal>) -> u32 {
+    match outcome {
+        Ok(_) => 0,
+        Err(refusal) => refusal.number(),
+    }
 }
 
 fn deposit(rt: &impl Print, q: BenchQueue, bench: u32, blocks: u32) -> io::Result<BenchQueue> {
     let deposited = q.deposit(bench, blocks);
-    number(rt, "deposit at bench ", bench)?;
-    number(rt, ", blocks ", blocks)?;
-    status(rt, deposited.status)?;
-    text(rt, "\n")?;
+    let status = status(&deposited.outcome);
+    println!(rt; "deposit at bench {bench}, blocks {blocks}: {status}")?;
     Ok(deposited.state)
 }
 
@@ -90,34 +60,28 @@ fn turn(rt: &impl Print, q: BenchQueue, l: u32, places: usize) -> io::Result<Ben
 {
     let mut out = [0u8; 4096];
     let turned = q.turn(l, &mut out[..places]);
-    number(rt, "turn of ", l)?;
-    status(rt, turned.status)?;
-    number(rt, ", listed ", turned.listed)?;
-    word(rt, turned.word)?;
-    code_listed(rt, &out, turned.listed)?;
+    let status = status(&turned.outcome);
+    let listed = turned.outcome.map_or(0, |coded| coded.listed);
+    let word = turned.outcome.map_or("", |coded| word(coded.word));
+    println!(rt; "turn of {l}: {status}, listed {listed}{word}")?;
+    code_listed(rt, &out[..(listed as usize).min(4096)])?;
     Ok(turned.state)
-}
-
-fn show_counts(rt: &impl Print, counts: &[u32; 8]) -> io::Result<()> {
-    for count in counts {
-        number(rt, " ", *count)?;
-    }
-    text(rt, "\n")
 }
 
 fn report(rt: &impl Print, q: BenchQueue) -> io::Result<()> {
     let reported = q.report();
-    text(rt, "report")?;
-    status(rt, reported.status)?;
-    text(rt, ", waiting")?;
-    show_counts(rt, &reported.waiting)
+    let status = status(&reported.outcome);
+    print!(rt; "report: {status}, waiting")?;
+    for count in reported.outcome.unwrap_or([0; 8]) {
+        print!(rt; " {count}")?;
+    }
+    println!(rt)
 }
 
 fn made(rt: &impl Print, benches: u32) -> io::Result<BenchQueue> {
     let new = BenchQueue::new(benches);
-    number(rt, "new of ", benches)?;
-    status(rt, new.status)?;
-    text(rt, "\n")?;
+    let status = status(&new.outcome);
+    println!(rt; "new of {benches}: {status}")?;
     Ok(new.state)
 }
 

@@ -10,17 +10,19 @@ use lib.Arith.{digits_div, digits_mod}
 use lib.ListN.{length, get_or}
 use lib.IntN.{ℤ, pos}
 use Rattle.lists.specs.Tab.{tab}
-use Rattle.lists.proofs.Tab.{length-tab, get_d-tab, tab-ext, tab-get_d, map-get_d, map-tab, tab-append}
-use Rattle.refusals.specs.Refusals.{Test, status, written}
-use Rattle.refusals.proofs.Refusals.{Passed, Failed, number_of, failed, passed, refused, accepted, kept, wrote}
+use Rattle.lists.proofs.Tab.{length-tab, tab-ext, tab-get_d, map-get_d, map-tab, tab-append}
+use Rattle.std.specs.Prelude.{Ok}
+use Rattle.refusals.specs.Refusals.{Test}
+use Rattle.refusals.specs.Numbers.{told}
+use Rattle.refusals.proofs.Refusals.{Passed, passed, wrote}
 use Rattle.clamping.specs.Clamping.{sample_u8}
 use Rattle.clamping.specs.Rule.{rule_u8}
 use Rattle.clamping.specs.Counts.{raised_one, lowered_one, counted, tally_one}
 use Rattle.clamping.specs.declared.Rule.{Rule}
-use Rattle.clamping.proofs.ByRule.{raised-most, lowered-most, tally-most}
+use Rattle.clamping.proofs.ByRule.{raised-most, lowered-most}
 use Rattle.passes.specs.Passes.{Size, column_pass, row_pass}
-use Rattle.block.specs.Block.{columns, row_of, row_samples, samples, block}
-use Rattle.block.specs.Clamped.{itself, unclamped, block_raised, block_lowered, clamped_answer, counts_of, refused_by, clamped_by}
+use Rattle.block.specs.Block.{columns, row_of, row_at, row_samples, samples, block}
+use Rattle.block.specs.Clamped.{itself, unclamped, block_raised, block_lowered, counts_of, no_counts, clamped_answer, clamped_by}
 use Rattle.block.specs.declared.Clamped.{Clamped}
 use Rattle.block.proofs.Rows.{row_made, block_read}
 
@@ -127,7 +129,7 @@ added-4 t l = omega arith ∙ ap added (tab-get_d 0 t 4 l)
 -- the rows of an 8×8 block, each column of which was counted: what stands in column x of rows is `row_of` of them
 pub columns-counted : (one : Rule → ℕ) (row : List ℤ → List ℤ) (cols : List (List ℤ)) {rs : List (List ℤ)} → rs ≡ tab 8 (λ y. row (row_of cols y)) → ((y : ℕ) → length (row (row_of cols y)) ≡ 8) →
     added (tab 8 (λ x. counted one (row_of rs x))) ≡ counted one (row_samples row itself 8 cols)
-unfolding row_of row_samples
+unfolding row_at row_samples
 columns-counted one row cols {rs} e l =
     ap added (tab-ext 8 _ _ (λ x b. ap (counted one) (tab-ext 8 _ _ (λ y c. ap (λ (q : List ℤ). get_or q x (pos 0)) (row_made row cols 8 e y c)))))
     ∙ by-columns one 8 (λ y. row (row_of cols y)) 8 (λ y b. l y)
@@ -157,44 +159,19 @@ lowered-few z xs = omega (arith, counted-most lowered_one 1 lowered-most (unclam
 
 -- ---- what a call answers
 
-module _ {A : Type 0} (value held : A) (ts : List Test) where
-  -- where the k-th test fails
-  pub refused-counts : (raised lowered k : ℕ) {r : Clamped} → Failed k ts → r ≡ refused_by (number_of k ts) → (r ≡ clamped_answer ts raised lowered) × (held ≡ written r.status value held)
-  unfolding clamped_answer
-  refused-counts raised lowered k h e =
-      let number = failed k ts h in
-      let none : (n : ℕ) → 0 ≡ written (status ts) n 0 = λ n. (refused n 0 ts k h).1 ∙ ap (λ (s : ℕ). written s n 0) number in
-      (e ∙ (λ i. record { status = number i; raised = none raised i; lowered = none lowered i }), rw e (refused value held ts k h).1)
-
-  -- where every test passes, and t is the number that has both counts
-  pub accepted-counts : (vs : List ℤ) {t : ℕ} {x : A} {r : Clamped} → length vs ≤ 64 → Passed ts → t ≡ counted tally_one vs → r ≡ clamped_by t → x ≡ value →
-      (r ≡ clamped_answer ts (counted raised_one vs) (counted lowered_one vs)) × (x ≡ written r.status value held)
-  unfolding clamped_answer
-  accepted-counts vs {t} few h e f v =
-      let number = passed ts h in
-      let apart = tally-apart vs few e in
-      (f ∙ (λ i. record { status = number i; raised = wrote _ 0 (sym number) apart.0 i; lowered = wrote _ 0 (sym number) apart.1 i }), rw f (wrote value held refl v))
-
--- a block whose samples and counts are those of xs, and one by its columns
-module _ (z : Size) (xs : List ℤ) (held : List ℕ) (ts : List Test) (few : z.side * z.side ≤ 64) (h : Passed ts) {t : ℕ} {r : Clamped} {out : List ℕ} (answer : r ≡ clamped_by t) where
-  pub block-answered : t ≡ counted tally_one (unclamped z xs) → out ≡ block z xs → (r ≡ clamped_answer ts (block_raised z xs) (block_lowered z xs)) × (out ≡ written r.status (block z xs) held)
-  unfolding block_raised block_lowered
-  block-answered e f = accepted-counts (block z xs) held ts (unclamped z xs) (omega (arith, length-unclamped z xs, few)) h e answer f
-
-  pub columns-answered : {cols : List (List ℤ)} → cols ≡ columns (column_pass z) xs → (t ≡ counted tally_one (row_samples (row_pass z) itself z.side cols)) × (out ≡ row_samples (row_pass z) sample_u8 z.side cols) →
-      (r ≡ clamped_answer ts (block_raised z xs) (block_lowered z xs)) × (out ≡ written r.status (block z xs) held)
-  columns-answered e f = let made = columns-made z xs e f in block-answered made.0 made.1
-
--- the answer of samples that were written, of the number that has both counts
+-- the counts by t, the number that has both
 pub tally-answered : (vs : List ℤ) {t : ℕ} {r : Clamped} → length vs ≤ 64 → t ≡ counted tally_one vs → r ≡ clamped_by t → r ≡ counts_of vs
 unfolding counts_of
-tally-answered vs few e f = let apart = tally-apart vs few e in f ∙ (λ i. record { status = 0; raised = apart.0 i; lowered = apart.1 i })
+tally-answered vs few e f = let apart = tally-apart vs few e in f ∙ (λ i. record { raised = apart.0 i; lowered = apart.1 i })
 
--- what a call answers whose tests pass, handed on
-pub answer-handed : (ts : List Test) (vs : List ℤ) {r : Clamped} → 0 ≡ status ts → r ≡ counts_of vs → r ≡ clamped_answer ts (counted raised_one vs) (counted lowered_one vs)
-unfolding clamped_answer counts_of written
-answer-handed ts vs h e = e ∙ ap (λ (s : ℕ). record { status = s; raised = written s (counted raised_one vs) 0; lowered = written s (counted lowered_one vs) 0 }) h
+-- those of a block, and of one by its columns
+module _ (z : Size) (xs : List ℤ) (few : z.side * z.side ≤ 64) {t : ℕ} {r : Clamped} (answer : r ≡ clamped_by t) where
+  pub block-answered : t ≡ counted tally_one (unclamped z xs) → r ≡ record { raised = block_raised z xs; lowered = block_lowered z xs }
+  unfolding block_raised block_lowered counts_of
+  block-answered e = tally-answered (unclamped z xs) (omega (arith, length-unclamped z xs, few)) e answer
 
-pub answer-status : (ts : List Test) (raised lowered : ℕ) {r : Clamped} → r ≡ clamped_answer ts raised lowered → r.status ≡ status ts
-unfolding clamped_answer
-answer-status ts raised lowered e = ap (λ (r : Clamped). r.status) e
+  -- where every test passes
+  pub entry-answered : (ts : List Test) → Passed ts → t ≡ counted tally_one (unclamped z xs) → told no_counts (Ok r) ≡ clamped_answer ts (block_raised z xs) (block_lowered z xs)
+  entry-answered ts h e =
+      let s = passed ts h in
+      λ i. record { status = s i; value = wrote (record { raised = block_raised z xs; lowered = block_lowered z xs }) no_counts (sym s) (block-answered e) i }

@@ -29,7 +29,7 @@ use Rattle.clamping.specs.Clamping.{sample12bit}
 use Rattle.scaling.proofs.Rounding.{descaled-exact}
 use Rattle.passes.specs.Passes.{Size, eight, four, two, pass}
 use Rattle.block.specs.Bound.{AtMost}
-use Rattle.block.specs.Block.{column_of, columns, row_of, row_samples, samples, block12bit}
+use Rattle.block.specs.Block.{column_of, columns, row_of, row_at, row_samples, samples, block12bit}
 
 -- the exact sums, each rounded and scaled down by s bits
 unfoldable pub exact_pass : List (List ℤ) → ℕ → List ℤ → List ℤ
@@ -90,7 +90,7 @@ unfolding column_of
 column-at-most B xs h u = tab-at-most B 8 _ (λ v b. h (8 * v + u))
 
 row-at-most : (B : ℕ) (column : List ℤ → List ℤ) (xs : List ℤ) → ((u : ℕ) → AtMost B (column (column_of xs u))) → (y : ℕ) → AtMost B (row_of (columns column xs) y)
-unfolding row_of columns
+unfolding row_at columns
 row-at-most B column xs h y = tab-at-most B 8 _ (λ u b. rw (get_d-tab 8 (λ u. column (column_of xs u)) [] u b) (h u y))
 
 -- passes that agree on what they are given make the same block

@@ -14,7 +14,7 @@ use Rattle.lists.specs.Every.{every, Every, every-nil}
 use Rattle.lists.proofs.Every.{every_holds, every-yes, every-at}
 use Rattle.lists.proofs.Tab.{length-tab, get_d-tab}
 use Rattle.passes.specs.Passes.{Size, dc, pass, row_pass}
-use Rattle.block.specs.Block.{row_of}
+use Rattle.block.specs.Block.{row_of, row_at}
 
 -- what a yes of the tests says: of the first n numbers, of columns
 pub first-fit : (xs : List ℤ) (n : ℕ) {t : Bool} → t ≡ every fits16 (take n xs) → t ≡ true → Every Fits16 (take n xs)
@@ -31,7 +31,7 @@ module _ {cols : List (List ℤ)} (h : Every (Every Fits16) cols) where
   -- row p of them, by the full pass
   pub row_fits : (z : Size) → ((p : List ℤ) → length p ≡ 8 → nat_abs (dc p) ≤ 2 ^ 15 → pass w32 z.matrix (18 + z.extra) p ≡ row_pass z p) →
       (y : ℕ) {p r : List ℤ} → p ≡ row_of cols y → r ≡ pass w32 z.matrix (18 + z.extra) p → r ≡ row_pass z (row_of cols y)
-  unfolding row_of
+  unfolding row_at
   row_fits z full y e f =
       let first : dc (row_of cols y) ≡ get_or (get_or cols 0 []) y (pos 0) = get_d-tab 8 (λ u. get_or (get_or cols u []) y (pos 0)) (pos 0) 0 (lit< tt) in
       f ∙ ap (pass w32 z.matrix (18 + z.extra)) e ∙ full (row_of cols y) (length-tab 8 _) (rw first (fits16-abs _ (entry-fits 0 y)))

@@ -1,34 +1,32 @@
 -- A block of which DC alone is not zero: at every size one number stands in each place, `level` of DC.
 -- Assumes nothing.
-use mathlib.Core.Path.{◌≡◌, refl, sym, ap, ◌∙◌, subst}
+use mathlib.Core.Path.{◌≡◌, refl, sym, ap, ap₂, ◌∙◌}
 use mathlib.Core.Bool.{Bool, true, false, cond, ◌&&◌}
 use mathlib.Core.List.{List, [], ◌∷◌, map}
-use Prim.Native.Nat.{ℕ, zero, suc, ◌+◌, ◌-◌, ◌*◌, ◌/◌, ◌%◌, ◌^◌, ◌≤◌, ◌<◌}
+use Prim.Native.Nat.{ℕ, zero, suc, ◌+◌, ◌*◌, ◌/◌, ◌%◌, ◌^◌, ◌≤◌, ◌<◌}
 use native.Mathlib.Decide.{dec_lt}
 use native.Mathlib.Nat.{zero-mul, suc-mul}
 use native.Mathlib.Numerals.{add-one}
 use native.Mathlib.Omega.{arith}
-use borrow.Author.Tests.{ltb-true}
+use borrow.Author.Tests.{ltb-true, lt-ltb}
 use lib.Bits.{bit_or}
 use lib.Dec.{T, eqb, ltb, eqb-suc-zero, eqb→eq}
-use lib.ListN.{length, get_or, take, drop, replicate, get_or-replicate, get_or-eq_default}
+use lib.ListN.{get_or, take, drop, replicate, get_or-replicate, get_or-eq_default}
 use lib.Seq.{get_or-take, get_or-drop}
 use lib.IntN.{ℤ, pos, nat_abs, ◌*ℤ◌}
 use lib.Signed.{mag}
 use mir.Syntax.{Width, w32}
-use mir.Val.{hbits, to_z, of_z}
+use mir.Val.{SFits, Fits, to_z, of_z}
+use Rattle.std.proofs.Math.Facts.{of_z-to_z, Fits-or, Fits-of_z, sfits_to_z}
 use mir.ValLaws.{to_z-of_z}
 use Rattle.integers.specs.Wrap.{wrap, modulo}
 use Rattle.integers.specs.Linear.{listed, zero_at}
 use Rattle.integers.proofs.Agree.{zero-size}
 use Rattle.integers.proofs.ZeroTest.{or-eqb, zero_bits}
 use Rattle.lists.specs.Tab.{tab}
-use Rattle.lists.specs.Every.{every, Every}
 use Rattle.lists.proofs.Tab.{length-tab, get_d-tab, tab-ext, map-tab}
 use Rattle.lists.proofs.Grid.{placed}
-use Rattle.lists.proofs.Every.{every-yes, every-at, every-next}
-use Rattle.refusals.specs.Refusals.{Test, written}
-use Rattle.refusals.proofs.Refusals.{Passed}
+use Rattle.lists.proofs.Every.{every-yes, every-at}
 use Rattle.scaling.specs.Scaling.{descaled}
 use Rattle.clamping.specs.Clamping.{sample_u8}
 use Rattle.clamping.specs.Rule.{rule_u8}
@@ -36,11 +34,10 @@ use Rattle.clamping.specs.Counts.{counted, tally_one}
 use Rattle.clamping.specs.declared.Rule.{Rule}
 use Rattle.passes.specs.Passes.{Size, dc, column_pass, row_pass}
 use Rattle.passes.proofs.Steps.{zero-column, zero_row}
-use Rattle.block.specs.Block.{column_of, columns, row_of, row_samples, samples, block, first_rows}
-use Rattle.block.specs.Clamped.{unclamped, block_raised, block_lowered, clamped_answer, clamped_by}
+use Rattle.block.specs.Block.{column_of, columns, row_of, row_at, row_samples, samples, block, first_rows}
+use Rattle.block.specs.Clamped.{unclamped}
 use Rattle.block.specs.Level.{level, is_zero, zeros}
-use Rattle.block.specs.declared.Clamped.{Clamped}
-use Rattle.block.proofs.Counts.{block-unclamped, counted-more, block-answered}
+use Rattle.block.proofs.Counts.{block-unclamped, counted-more}
 
 -- the entries besides the first are zero
 abbrev pub Alone : List ℤ → Type 0
@@ -53,9 +50,11 @@ is-zero x t = zero-size x (eqb→eq (nat_abs x) 0 t)
 pub zeros-yes : (xs : List ℤ) {t : Bool} → t ≡ zeros xs → t ≡ true → (k : ℕ) → get_or xs k (pos 0) ≡ pos 0
 zeros-yes xs e h = every-at (every-yes is_zero is-zero xs e h) (pos 0) refl
 
--- a loop's test of one number more, by its bits and those before
-pub zeros-next : (w : Width) (xs : List ℤ) (k b : ℕ) → eqb b 0 ≡ zeros (take k xs) → k < length xs → mag (get_or xs k (pos 0)) < 2 ^ hbits w → eqb (bit_or (of_z w (get_or xs k (pos 0))) b) 0 ≡ zeros (take (k + 1) xs)
-zeros-next w xs k b e l f = or-eqb (of_z w (get_or xs k (pos 0))) b ∙ every-next is_zero (pos 0) xs k e l (zero_bits w (get_or xs k (pos 0)) f)
+-- both together by `|` are zero where each is
+pub or-zero : (w : Width) {a b : ℤ} → SFits w a → SFits w b → is_zero (to_z w (bit_or (of_z w a) (of_z w b))) ≡ (is_zero a && is_zero b)
+or-zero w {a} {b} f g =
+    let whole : Fits w (bit_or (of_z w a) (of_z w b)) = Fits-or (Fits-of_z {w = w} {z = a} f) (Fits-of_z {w = w} {z = b} g) in
+    sym (zero_bits w (to_z w (bit_or (of_z w a) (of_z w b))) (sfits_to_z whole).sfits) ∙ ap (λ (n : ℕ). eqb n 0) (of_z-to_z whole) ∙ or-eqb (of_z w a) (of_z w b) ∙ ap₂ ◌&&◌ (zero_bits w a f.sfits) (zero_bits w b g.sfits)
 
 zeros-after : (ks : List ℕ) → listed ks 0 ≡ false → (p : List ℤ) → Alone p → zero_at ks p ≡ true
 unfolding zero_at listed
@@ -83,26 +82,26 @@ module _ (z : Size) (d : listed z.ac 0 ≡ false) (xs : List ℤ) (h : Alone xs)
       let first : dc (column_of xs u) ≡ get_or xs u (pos 0) = get_d-tab 8 (λ v. get_or xs (8 * v + u) (pos 0)) (pos 0) 0 (omega arith) ∙ ap (λ (i : ℕ). get_or xs i (pos 0)) (omega arith) in
       sym (zero-column z (column_of xs u) (sym (zeros-after z.ac d (column_of xs u) (column-alone xs h u))) refl (ap (λ (x : ℤ). wrap w32 (pos 4 *ℤ x)) (sym first)))
 
-  abbrev row_at : ℕ → List ℤ
-  row_at y = row_of (columns (column_pass z) xs) y
+  abbrev row_here : ℕ → List ℤ
+  row_here y = row_of (columns (column_pass z) xs) y
 
-  row_number : (y : ℕ) → y < z.side → (u : ℕ) → u < 8 → get_or (row_at y) u (pos 0) ≡ number u
-  unfolding row_of columns
+  row_number : (y : ℕ) → y < z.side → (u : ℕ) → u < 8 → get_or (row_here y) u (pos 0) ≡ number u
+  unfolding row_at columns
   row_number y b u c =
       get_d-tab 8 _ (pos 0) u c ∙ ap (λ (q : List ℤ). get_or q y (pos 0)) (get_d-tab 8 _ [] u c ∙ column-level u) ∙ get_or-replicate z.side y (number u) (pos 0) b
 
-  row-alone : (y : ℕ) → y < z.side → Alone (row_at y)
-  unfolding row_of wrap modulo
+  row-alone : (y : ℕ) → y < z.side → Alone (row_here y)
+  unfolding row_at wrap modulo
   row-alone y b k = go (dec_lt (suc k) 8)
     where
-      go : Dec (suc k < 8) → get_or (row_at y) (suc k) (pos 0) ≡ pos 0
+      go : Dec (suc k < 8) → get_or (row_here y) (suc k) (pos 0) ≡ pos 0
       go (yes c) = row_number y b (suc k) c ∙ ap (λ (x : ℤ). wrap w32 (pos 4 *ℤ x)) (h k)
-      go (no c) = get_or-eq_default (row_at y) (pos 0) (omega (arith, length-tab 8 (λ u. get_or (get_or (columns (column_pass z) xs) u []) y (pos 0))))
+      go (no c) = get_or-eq_default (row_here y) (pos 0) (omega (arith, length-tab 8 (λ u. get_or (get_or (columns (column_pass z) xs) u []) y (pos 0))))
 
-  row-level : (y : ℕ) → y < z.side → row_pass z (row_at y) ≡ replicate z.side (level (get_or xs 0 (pos 0)))
+  row-level : (y : ℕ) → y < z.side → row_pass z (row_here y) ≡ replicate z.side (level (get_or xs 0 (pos 0)))
   unfolding level
   row-level y b =
-      sym (zero_row z (row_at y) (sym (zeros-after z.ac d (row_at y) (row-alone y b))) refl (ap (λ (x : ℤ). descaled w32 x 5) (sym (row_number y b 0 (omega arith)))))
+      sym (zero_row z (row_here y) (sym (zeros-after z.ac d (row_here y) (row-alone y b))) refl (ap (λ (x : ℤ). descaled w32 x 5) (sym (row_number y b 0 (omega arith)))))
 
   -- the numbers before the clamp
   pub level-unclamped : unclamped z xs ≡ tab (z.side * z.side) (λ i. level (get_or xs 0 (pos 0)))
@@ -137,10 +136,12 @@ rows-alone r m xs b e y k = go (dec_lt (suc k) 64)
     go (yes c) = get_d-tab 64 _ (pos 0) (suc k) c ∙ at (ltb (suc k / 8) r) refl
     go (no c) = get_or-eq_default (first_rows r xs) (pos 0) (omega (arith, length-tab 64 (λ i. cond (ltb (i / 8) r) (get_or xs i (pos 0)) (pos 0))))
 
--- DC, of the top half too, and as the code hands it on
-pub top-half-dc : (xs : List ℤ) → get_or xs 0 (pos 0) ≡ get_or (first_rows 4 xs) 0 (pos 0)
+-- DC, of the first rows too, and as the code hands it on
+pub rows-dc : (n : ℕ) → 1 ≤ n → (xs : List ℤ) → get_or xs 0 (pos 0) ≡ get_or (first_rows n xs) 0 (pos 0)
 unfolding first_rows
-top-half-dc xs = sym (get_d-tab 64 (λ i. cond (ltb (i / 8) 4) (get_or xs i (pos 0)) (pos 0)) (pos 0) 0 (omega arith))
+rows-dc n h xs =
+    sym (get_d-tab 64 (λ i. cond (ltb (i / 8) n) (get_or xs i (pos 0)) (pos 0)) (pos 0) 0 (omega arith)
+    ∙ ap (λ (t : Bool). cond t (get_or xs 0 (pos 0)) (pos 0)) (lt-ltb 0 n (omega arith)))
 
 pub dc-read : {r x : ℤ} → mag r < 2 ^ 31 → r ≡ x → level (to_z w32 (of_z w32 r)) ≡ level x
 dc-read f e = ap level (to_z-of_z w32 _ (record { sfits = f }) ∙ e)
@@ -152,8 +153,3 @@ level-made z d xs alone m f e = (
   e.0 ∙ (λ i. m i * tally_one (rule_u8 (f i))) ∙ sym (ap (counted tally_one) (level-unclamped z d xs alone) ∙ counted_same tally_one _ (z.side * z.side)),
   e.1 ∙ (λ i. tab (m i) (λ k. sample_u8 (f i))) ∙ sym (level-block z d xs alone),
 )
-
--- what a call answers that wrote them
-pub level-answered : (z : Size) → listed z.ac 0 ≡ false → (xs : List ℤ) (held : List ℕ) (ts : List Test) → z.side * z.side ≤ 64 → Passed ts → {t n : ℕ} {v : ℤ} {r : Clamped} {out : List ℕ} → r ≡ clamped_by t → Alone xs →
-    n ≡ z.side * z.side → v ≡ level (get_or xs 0 (pos 0)) → (t ≡ n * tally_one (rule_u8 v)) × (out ≡ tab n (λ i. sample_u8 v)) → (r ≡ clamped_answer ts (block_raised z xs) (block_lowered z xs)) × (out ≡ written r.status (block z xs) held)
-level-answered z d xs held ts few h answer alone m f e = let made = level-made z d xs alone m f e in block-answered z xs held ts few h answer made.0 made.1

@@ -16,7 +16,6 @@ use Rattle.integers.specs.Fits16.{Fits16}
 use Rattle.integers.proofs.Fits16.{fits16-zero, fits16-held, fits16-local}
 use Rattle.lists.specs.Every.{Every, every-nil, every-cons}
 use Rattle.lists.specs.Tab.{tab}
-use Rattle.lists.proofs.Every.{every-same, every_set}
 use Rattle.lists.proofs.Tab.{tab-ext, get_d-tab, set-tab}
 use Rattle.block.specs.Block.{column_of, first_rows}
 
@@ -61,15 +60,29 @@ load-all {xs = xs} {rows = n} {u = u} {v = v} h b c =
     sym (get_d-tab 64 (λ i. cond (ltb (i / 8) n) (get_or xs i (pos 0)) (pos 0)) (pos 0) (8 * v + u) (omega arith)
     ∙ ap (λ (k : ℕ). cond (ltb k n) (get_or xs (8 * v + u) (pos 0)) (pos 0)) d))
 
--- the same of 16-bit numbers, which are then known to be such
-abbrev pub Loaded16 : List ℤ → ℕ → ℕ → ℕ → List ℤ → Type 0
-Loaded16 xs rows u v p = Loaded xs rows u v p × Every Fits16 p
+-- the first n numbers of a block, and zeros
+unfoldable pub loaded_first : List ℤ → ℕ → List ℤ
+loaded_first xs n = tab 64 (λ i. cond (ltb i n) (get_or xs i (pos 0)) (pos 0))
 
-pub load16-none : {xs : List ℤ} {rows u : ℕ} → Loaded16 xs rows u 0 (replicate 8 (pos 0))
-load16-none = (load-none, every-same Fits16 8 (pos 0) fits16-zero)
+pub first-none : (xs : List ℤ) → replicate 64 (pos 0) ≡ loaded_first xs 0
+unfolding loaded_first tab
+first-none xs = refl
 
-pub load16-more : {xs : List ℤ} {rows u v : ℕ} {p : List ℤ} {x : ℤ} → Loaded16 xs rows u v p → v < rows → rows ≤ 8 → x ≡ get_or xs (8 * v + u) (pos 0) → Fits16 x → Loaded16 xs rows u (v + 1) (set p v x)
-load16-more {v = v} {x = x} h b r e f = (load-more h.0 b r e, every_set h.1 v x f)
+pub first-more : (xs : List ℤ) {n : ℕ} {p : List ℤ} {x : ℤ} → p ≡ loaded_first xs n → n < 64 → x ≡ get_or xs n (pos 0) → set p n x ≡ loaded_first xs (n + 1)
+unfolding loaded_first
+first-more xs {n = n} {x = x} h b f =
+    ap (λ (l : List ℤ). set l n x) h
+    ∙ set-tab 64 _ _ n x b (f ∙ sym (ap (λ (t : Bool). cond t (get_or xs n (pos 0)) (pos 0)) (lt-ltb n (n + 1) (omega arith))))
+    (λ i c o. ap (λ (t : Bool). cond t (get_or xs i (pos 0)) (pos 0)) (other i n o))
+
+-- whole rows
+pub first-whole : (xs : List ℤ) (r : ℕ) {n : ℕ} {p : List ℤ} → p ≡ loaded_first xs n → n ≡ 8 * r → p ≡ first_rows r xs
+unfolding loaded_first first_rows
+first-whole xs r {n = n} h e = h ∙ tab-ext 64 _ _ (λ i b. ap (λ (t : Bool). cond t (get_or xs i (pos 0)) (pos 0)) (row i (dec_lt i n)))
+  where
+    row : (i : ℕ) → Dec (i < n) → ltb i n ≡ ltb (i / 8) r
+    row i (yes l) = lt-ltb i n l ∙ sym (lt-ltb (i / 8) r (omega arith))
+    row i (no l) = le-ltb i n (omega arith) ∙ sym (le-ltb (i / 8) r (omega arith))
 
 -- rs, held by locals of 32 bits, are the 16-bit numbers zs: each read, or 0
 pub data Read16 : List ℤ → List ℤ → Type 0 where

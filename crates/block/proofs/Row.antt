@@ -2,17 +2,15 @@
 -- (p0 + 16) / 32. So do rows of columns that fit 16 bits; and what a row gives fits 16 bits.
 -- Assumes nothing.
 use mathlib.Core.Path.{◌≡◌, sym, ap, ap₂, ◌∙◌}
-use mathlib.Core.List.{List, [], ◌∷◌, map}
+use mathlib.Core.List.{List, []}
 use Prim.Native.Nat.{ℕ, ◌+◌, ◌-◌, ◌*◌, ◌^◌, ◌<◌, ◌≤◌}
 use native.Mathlib.Nat.{mul-le-mul_right}
 use native.Mathlib.Omega.{arith}
 use lib.Dec.{lit<, lit≤}
-use lib.ListN.{length, get_or, replicate}
+use lib.ListN.{length, replicate}
 use lib.Pow.{pow_pos, pow-add, pow_mono}
-use lib.IntN.{ℤ, pos, negsuc, nat_abs, ◌+ℤ◌, ◌*ℤ◌, +ℤ_idr}
+use lib.IntN.{ℤ, pos, nat_abs, ◌+ℤ◌, ◌*ℤ◌, +ℤ_idr}
 use mir.Syntax.{w32}
-use mir.Val.{SFits}
-use Rattle.integers.specs.Fits16.{Fits16}
 use Rattle.integers.specs.Wrap.{wrap}
 use Rattle.integers.specs.Floor.{floor_div}
 use Rattle.integers.specs.Linear.{dot, transform, listed, zero_at, blank}
@@ -21,10 +19,10 @@ use Rattle.integers.proofs.Wrap.{wrap-id}
 use Rattle.integers.proofs.Floor.{floor-cancel}
 use Rattle.integers.proofs.Bound.{small-fits}
 use Rattle.lists.specs.Below.{below}
-use Rattle.gains.specs.Gains.{mirror, mirrored, upper, gains, upper4, gains4, skipped4, upper2, gains2, skipped2}
+use Rattle.gains.specs.Gains.{mirror, mirrored, upper, gains, upper2, gains2, skipped2}
 use Rattle.scaling.specs.Scaling.{descaled}
 use Rattle.scaling.proofs.Rounding.{descaled-exact}
-use Rattle.passes.specs.Passes.{eight, four, two, dc, pass, row_pass}
+use Rattle.passes.specs.Passes.{eight, two, dc, pass, row_pass}
 use Rattle.block.proofs.Column.{shortcut}
 
 solo-entry : (s : ℕ) → s ≤ 15 → (a : ℤ) → 2 ^ s * nat_abs a ≤ 2 ^ 30 → descaled w32 (wrap w32 (pos (2 ^ s) *ℤ a +ℤ pos 0)) (s + 5) ≡ descaled w32 a 5

@@ -1,12 +1,13 @@
 -- A loop over rows, each stored as n samples: what one turn adds, over the pass, the clamp and n.
 -- Assumes nothing.
-use mathlib.Core.Path.{◌≡◌, sym, ap, ◌∙◌, subst}
+use mathlib.Core.Path.{◌≡◌, refl, sym, ap, ◌∙◌, subst}
 use mathlib.Core.Bool.{Bool, true, false, cond}
 use mathlib.Core.List.{List, [], map}
 use Prim.Native.Nat.{ℕ, ◌+◌, ◌*◌, ◌/◌, ◌%◌, ◌^◌, ◌<◌, ◌≤◌}
 use native.Mathlib.Nat.{mul-le-mul_right, add-mul, one-mul}
 use native.Mathlib.Omega.{arith}
 use borrow.Author.Tests.{lt-ltb}
+use lib.Dec.{ltb}
 use lib.Arith.{digits_div, digits_mod}
 use lib.ListN.{length, get_or, replicate}
 use lib.Seq.{paste}
@@ -29,6 +30,15 @@ pub first-all : (xs : List ℤ) → length xs ≡ 64 → first_rows 8 xs ≡ xs
 unfolding first_rows
 first-all xs e =
     tab-ext 64 _ _ (λ i b. ap (λ (t : Bool). cond t (get_or xs i (pos 0)) (pos 0)) (lt-ltb (i / 8) 8 (omega arith))) ∙ tab-get_d (pos 0) xs 64 e
+
+-- the same rows again
+pub first-twice : (n : ℕ) (xs : List ℤ) → first_rows n (first_rows n xs) ≡ first_rows n xs
+unfolding first_rows
+first-twice n xs = tab-ext 64 _ _ (λ i b. ap (λ (x : ℤ). cond (ltb (i / 8) n) x (pos 0)) (get_d-tab 64 (λ i. cond (ltb (i / 8) n) (get_or xs i (pos 0)) (pos 0)) (pos 0) i b) ∙ twice (ltb (i / 8) n) (get_or xs i (pos 0)))
+  where
+    twice : (t : Bool) (x : ℤ) → cond t (cond t x (pos 0)) (pos 0) ≡ cond t x (pos 0)
+    twice true x = refl
+    twice false x = refl
 
 -- there are eight columns
 pub length-columns : (column : List ℤ → List ℤ) (xs : List ℤ) → length (columns column xs) ≡ 8

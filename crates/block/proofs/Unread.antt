@@ -21,7 +21,7 @@ use Rattle.gains.specs.Gains.{mirror, mirrored, upper4, gains4, skipped4, upper2
 use Rattle.gains.proofs.Unread.{AgreeBut}
 use Rattle.scaling.specs.Scaling.{descaled}
 use Rattle.passes.specs.Passes.{Size, four, two, pass, column_pass, row_pass}
-use Rattle.block.specs.Block.{column_of, columns, row_of, row_samples, samples, block, first_rows, without, block12bit}
+use Rattle.block.specs.Block.{column_of, columns, row_of, row_at, row_samples, samples, block, first_rows, without, block12bit}
 
 -- f gives the same on inputs that agree but for the entries ks
 abbrev pub Ignores : List ℕ → (List ℤ → List ℤ) → Type 0
@@ -84,7 +84,7 @@ module _ (ks : List ℕ) (column row : List ℤ → List ℤ) (c : Ignores ks co
       ap (λ (p : List ℤ). get_or p y (pos 0)) (get_d-tab 8 (λ u. column (column_of xs u)) [] u b ∙ e ∙ sym (get_d-tab 8 (λ u. column (column_of ys u)) [] u b))
 
   samples-agree : (clamp : ℤ → ℕ) (n : ℕ) (xs ys : List ℤ) → AgreeOff ks xs ys → samples column row clamp n xs ≡ samples column row clamp n ys
-  unfolding samples row_samples row_of
+  unfolding samples row_samples row_at
   samples-agree clamp n xs ys h =
       tab-ext (n * n) _ _ (λ i b. ap (λ (p : List ℤ). clamp (get_or p (i % n) (pos 0))) (r _ _ (tab-agree ks 8 _ _ (columns-agree xs ys h (i / n)))))
 
@@ -111,7 +111,7 @@ column-skipped ks f h xs u e g = g ∙ ap f e ∙ skipping ks f h (column_of xs 
 -- nor columns that the rows ignore
 module _ {A : Type 0} (ks : List ℕ) (column row : List ℤ → List ℤ) (clamp : ℤ → A) (n : ℕ) (r : Ignores ks row) (xs : List ℤ) (d : List ℤ) where
   rows_agree : (y : ℕ) → AgreeBut ks (row_of (without d ks (columns column xs)) y) (row_of (columns column xs) y)
-  unfolding row_of columns without
+  unfolding row_at columns without
   rows_agree y = tab-agree ks 8 _ _ (λ u b l. ap (λ (p : List ℤ). get_or p y (pos 0)) (there u b l ∙ sym (made u b [])))
     where
       made : (u : ℕ) → u < 8 → (e : List ℤ) → get_or (columns column xs) u e ≡ column (column_of xs u)

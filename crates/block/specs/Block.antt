@@ -16,9 +16,19 @@ column_of xs u = tab 8 (λ v. get_or xs (8 * v + u) (pos 0))
 unfoldable pub columns : (List ℤ → List ℤ) → List ℤ → List (List ℤ)
 columns column xs = tab 8 (λ u. column (column_of xs u))
 
--- row y of what is given by its columns
-unfoldable pub row_of : List (List ℤ) → ℕ → List ℤ
-row_of cols y = tab 8 (λ u. get_or (get_or cols u []) y (pos 0))
+-- row y of what is given by its columns, where d stands for a number that is not there
+unfoldable pub row_at : {A : Type 0} → A → List (List A) → ℕ → List A
+row_at d cols y = tab 8 (λ u. get_or (get_or cols u []) y d)
+
+abbrev pub row_of : List (List ℤ) → ℕ → List ℤ
+row_of cols y = row_at (pos 0) cols y
+
+-- eight rows of numbers, by what their elements stand for, and column x of them
+abbrev pub valued : {A : Type 0} → (List A → List ℤ) → List (List A) → List (List ℤ)
+valued values rows = tab 8 (λ y. values (get_or rows y []))
+
+abbrev pub column : {A : Type 0} → (List A → List ℤ) → List (List A) → ℕ → List ℤ
+column values rows x = tab 8 (λ y. get_or (values (get_or rows y [])) x (pos 0))
 
 -- n·n samples, row by row, of what is given by its columns: sample x of row y is the clamp of number x of the pass over row y. (What a place
 -- gives is a sample or, for the counts, the number itself.)

@@ -1,6 +1,7 @@
 -- Document 02, card 4: "The 8-bit blocks of every kind [..] return how many samples were raised and how many lowered".
 use Rattle.std.specs.Prelude.{List, ℕ, ◌/◌, ◌%◌, ℤ}
-use Rattle.refusals.specs.Refusals.{Test, status, written}
+use Rattle.refusals.specs.Refusals.{Test}
+use Rattle.refusals.specs.Numbers.{Answer, answer}
 use Rattle.clamping.specs.Counts.{raised_one, lowered_one, counted}
 use Rattle.passes.specs.Passes.{Size, column_pass, row_pass}
 use Rattle.block.specs.Block.{samples}
@@ -20,19 +21,18 @@ block_raised z xs = counted raised_one (unclamped z xs)
 unfoldable pub block_lowered : Size → List ℤ → ℕ
 block_lowered z xs = counted lowered_one (unclamped z xs)
 
--- what a call with the tests ts answers: the counts, or, where it is refused, zero
-unfoldable pub clamped_answer : List Test → ℕ → ℕ → Clamped
-clamped_answer ts raised lowered =
-    let s = status ts in
-    record { status = s; raised = written s raised 0; lowered = written s lowered 0 }
-
--- the answer of a call that writes samples whose numbers before the clamp are vs
+-- the counts of samples whose numbers before the clamp are vs
 unfoldable pub counts_of : List ℤ → Clamped
-counts_of vs = record { status = 0; raised = counted raised_one vs; lowered = counted lowered_one vs }
+counts_of vs = record { raised = counted raised_one vs; lowered = counted lowered_one vs }
 
--- the answer of a block that is refused, and that of one whose samples were written, of the number that has both counts in it (`tally_one`)
-abbrev pub refused_by : ℕ → Clamped
-refused_by number = record { status = number; raised = 0; lowered = 0 }
+-- what a refused call answers by value
+abbrev pub no_counts : Clamped
+no_counts = record { raised = 0; lowered = 0 }
 
+-- what a call with the tests ts answers: the counts, or, where it is refused, zero
+abbrev pub clamped_answer : List Test → ℕ → ℕ → Answer Clamped
+clamped_answer ts raised lowered = answer ts (record { raised = raised; lowered = lowered }) no_counts
+
+-- the counts by the number that has both in it (`tally_one`)
 abbrev pub clamped_by : ℕ → Clamped
-clamped_by tally = record { status = 0; raised = tally % 256; lowered = tally / 256 }
+clamped_by tally = record { raised = tally % 256; lowered = tally / 256 }

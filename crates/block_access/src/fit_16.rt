@@ -1,6 +1,6 @@
-// Numbers of 32 bits that fit 16 bits: the test, and the fact told to the compiler. The Rust has no such test; it is what lets the passes
-// of idct.rs go by the products of 16-bit numbers (crate islow, `direct`).
-ghost use Rattle.std.specs.Prelude.{◌≡◌, ◌≤◌, length, take};
+// Numbers of 32 bits that fit 16 bits: the test, and the fact told to the compiler. The Rust has no such test; it is what lets the
+// passes of idct.rs go by the products of 16-bit numbers (crate islow, `direct`).
+ghost use Rattle.std.specs.Prelude.{◌≡◌};
 ghost use Rattle.integers.specs.Fits16.{Fits16, fits16};
 ghost use Rattle.lists.specs.Every.{every};
 
@@ -10,24 +10,24 @@ fn fits_16(x: i32) -> bool
     (x >= -32768) & (x <= 32767)
 }
 
-// Whether the first n values fit. No branch for each, so that the compiler tests several at once.
-pub fn all_fit(values: &[i32], n: usize) -> bool
-    requires { n ≤ length values.now }
-    ensures { result ≡ every fits16 (take n values.now) }
+// Whether all values fit. No branch for each, so that the compiler tests several at once.
+pub fn all_fit(values: &[i32]) -> bool
+    ensures { result ≡ every fits16 values.now }
 {
     let mut all = true;
-    let mut i = 0;
-    while i < n {
-        all = fits_16(values[i]) & all;
-        i += 1;
+    for x in values {
+        all = fits_16(*x) & all;
     }
     all
 }
 
-// A number that fits, as it is. The compiler sees that it fits, and makes one instruction of two products of such numbers.
-pub fn as_i16(x: i32) -> i32
-    requires { Fits16 x }
-    ensures { result ≡ x }
+// Whether every number of every column fits 16 bits.
+pub fn columns_fit<const N: usize>(w: &[[i32; N]; 8]) -> bool
+    ensures { result ≡ every (every fits16) w.now }
 {
-    (x as i16) as i32
+    let mut all = true;
+    for column in w {
+        all = all_fit(column) & all;
+    }
+    all
 }

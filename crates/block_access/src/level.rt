@@ -8,34 +8,22 @@ ghost use Rattle.clamping.specs.Rule.{rule_u8};
 ghost use Rattle.clamping.specs.Counts.{tally_one};
 ghost use Rattle.block.specs.Level.{level, zeros};
 
+use crate::number::Number;
 use clamping::sample_u8;
 use clamping::tally::tally_i32;
 use passes::zero_shortcut::{DC_GAIN, DC_SHIFT};
-use scaling::descale_i32;
-use wrapping::wrapping_mul_i32;
+use scaling::descale_by;
+use wrapping::Wrapping;
 
-pub fn all_zero_i16(values: &[i16]) -> bool
-    ensures { result ≡ zeros values.now }
+// Whether all numbers are zero. No branch for each, so that the compiler tests several at once.
+pub fn all_zero<T: Number>(values: &[T]) -> bool
+    ensures { result ≡ zeros (T.values values.now) }
 {
-    let mut bits = 0i16;
-    let mut i = 0;
-    while i < values.len() {
-        bits = values[i] | bits;
-        i += 1;
+    let mut bits = T::zero();
+    for x in values {
+        bits = x.or(bits);
     }
-    bits == 0
-}
-
-pub fn all_zero_i32(values: &[i32]) -> bool
-    ensures { result ≡ zeros values.now }
-{
-    let mut bits = 0i32;
-    let mut i = 0;
-    while i < values.len() {
-        bits = values[i] | bits;
-        i += 1;
-    }
-    bits == 0
+    bits.widen() == 0
 }
 
 // The samples of such a block; the answer has both counts in one number (`tally_one`).
@@ -44,12 +32,8 @@ pub fn put_level(output: &mut [u8], dc: i32) -> u32
     ensures value { result ≡ length output.old * tally_one (rule_u8 (level dc)) }
     ensures output_after { output.new ≡ tab (length output.old) (λ _. sample_u8 (level dc)) }
 {
-    let value = descale_i32(wrapping_mul_i32(DC_GAIN, dc), DC_SHIFT);
+    let value = descale_by(dc.times(DC_GAIN), DC_SHIFT);
     let sample = sample_u8(value).sample;
-    let mut i = 0;
-    while i < output.len() {
-        output[i] = sample;
-        i += 1;
-    }
+    output.fill(sample);
     (output.len() as u32) * tally_i32(value)
 }

@@ -9,70 +9,46 @@
 
 pub mod fit_16;
 pub mod level;
+pub mod number;
+pub mod sampled;
 
 ghost use Rattle.std.specs.Prelude.{◌≡◌, map, ◌+◌, ◌*◌, ◌≤◌, ◌<◌, length, get_or, pos};
 ghost use Rattle.std.proofs.Math.Seq.{paste};
 ghost use Rattle.integers.specs.Fits16.{Fits16};
 ghost use Rattle.lists.specs.Every.{Every};
 ghost use Rattle.gains.specs.Gains.{skipped4, skipped2};
-ghost use Rattle.clamping.specs.Clamping.{sample_u8, sample12bit};
-ghost use Rattle.block.specs.Block.{column_of, first_rows, row_of, without};
-ghost use Rattle.block.specs.Clamped.{refused_by, clamped_by};
+ghost use Rattle.block.specs.Block.{column_of, first_rows, row_at, without};
+ghost use Rattle.block.specs.Clamped.{clamped_by};
 
+use crate::number::Number;
+use crate::sampled::Sampled;
 use block::Clamped;
-use clamping::{sample_12bit, sample_u8};
 
-pub fn widen(x: i16) -> i32
-    ensures { result ≡ x }
+// Column u of a block's first `rows` rows; the rows below them are not read, and count as zero.
+pub fn load_column<T: Number>(input: &[T; 64], rows: usize, u: usize) -> [i32; 8]
+    requires { (rows ≤ 8) × (u < 8) }
+    ensures value { result ≡ column_of (first_rows rows (T.values input.now)) u }
+    ensures every { Every T.Fits result }
 {
-    x as i32
+    let mut p = [0i32; 8];
+    for v in 0..rows {
+        p[v] = input[8 * v + u].widen();
+    }
+    p
 }
 
 // Entry v of column u.
-pub fn coefficient(input: &[i16], v: usize, u: usize) -> i32
-    requires input_len { length input.now ≡ 64 }
-    requires v_bound { (v < 8) × (u < 8) }
+fn coefficient(input: &[i16; 64], v: usize, u: usize) -> i32
+    requires { (v < 8) × (u < 8) }
     ensures value { result ≡ get_or input.now (8 * v + u) (pos 0) }
     ensures fits16 { Fits16 result }
 {
-    widen(input[8 * v + u])
-}
-
-// Column u of a block's first `rows` rows; the rows below them are not read, and count as zero.
-pub fn load_column(input: &[i16], rows: usize, u: usize) -> [i32; 8]
-    requires input_len { length input.now ≡ 64 }
-    requires rows_bound { (rows ≤ 8) × (u < 8) }
-    ensures value { result ≡ column_of (first_rows rows input.now) u }
-    ensures every { Every Fits16 result }
-{
-    let mut p = [0i32; 8];
-    let mut v = 0;
-    while v < rows {
-        p[v] = coefficient(input, v, u);
-        v += 1;
-    }
-    p
-}
-
-// The same of a block of 32-bit numbers.
-pub fn load_column_i32(input: &[i32], rows: usize, u: usize) -> [i32; 8]
-    requires input_len { length input.now ≡ 64 }
-    requires rows_bound { (rows ≤ 8) × (u < 8) }
-    ensures { result ≡ column_of (first_rows rows input.now) u }
-{
-    let mut p = [0i32; 8];
-    let mut v = 0;
-    while v < rows {
-        p[v] = input[8 * v + u];
-        v += 1;
-    }
-    p
+    i32::from(input[8 * v + u])
 }
 
 // Column u for the 4-point transform, which ignores entry 4: it is not read.
-pub fn load_column_4(input: &[i16], u: usize) -> [i32; 8]
-    requires input_len { length input.now ≡ 64 }
-    requires u_bound { u < 8 }
+pub fn load_column_4(input: &[i16; 64], u: usize) -> [i32; 8]
+    requires { u < 8 }
     ensures value { result ≡ without (pos 0) skipped4 (column_of input.now u) }
     ensures every { Every Fits16 result }
 {
@@ -89,9 +65,8 @@ pub fn load_column_4(input: &[i16], u: usize) -> [i32; 8]
 }
 
 // Column u for the 2-point transform: only entries 0, 1, 3, 5, 7 are read.
-pub fn load_column_2(input: &[i16], u: usize) -> [i32; 8]
-    requires input_len { length input.now ≡ 64 }
-    requires u_bound { u < 8 }
+pub fn load_column_2(input: &[i16; 64], u: usize) -> [i32; 8]
+    requires { u < 8 }
     ensures value { result ≡ without (pos 0) skipped2 (column_of input.now u) }
     ensures every { Every Fits16 result }
 {
@@ -108,65 +83,22 @@ pub fn load_column_2(input: &[i16], u: usize) -> [i32; 8]
 }
 
 // Row y of what is given by its columns.
-pub fn load_row(w: &[[i32; 8]; 8], y: usize) -> [i32; 8]
-    requires { y < 8 }
-    ensures { result ≡ row_of w.now y }
+pub fn load_row<T: Copy, const N: usize>(w: &[[T; N]; 8], y: usize) -> [T; 8]
+    requires { y < N }
+    ensures { (d : T) → result ≡ row_at d w.now y }
 {
-    let mut p = [0i32; 8];
-    let mut u = 0;
-    while u < 8 {
-        p[u] = w[u][y];
-        u += 1;
-    }
-    p
-}
-
-// The same of columns of four numbers.
-pub fn load_row_4(w: &[[i32; 4]; 8], y: usize) -> [i32; 8]
-    requires { y < 4 }
-    ensures { result ≡ row_of w.now y }
-{
-    let mut p = [0i32; 8];
-    let mut u = 0;
-    while u < 8 {
-        p[u] = w[u][y];
-        u += 1;
-    }
-    p
+    [
+        w[0][y], w[1][y], w[2][y], w[3][y], w[4][y], w[5][y], w[6][y], w[7][y],
+    ]
 }
 
 // Writes the samples of q from place `at` on, and no other place.
-pub fn put_row(output: &mut [u8], at: usize, q: &[i32])
+pub fn put_row<T: Sampled>(output: &mut [T::Sample], at: usize, q: &[T])
     requires { at + length q.now ≤ length output.old }
-    ensures { output.new ≡ paste output.old at (map sample_u8 q.now) (length q.now) }
+    ensures { output.new ≡ paste output.old at (map T.clamp q.now) (length q.now) }
 {
-    let mut k = 0;
-    while k < q.len() {
-        output[at + k] = sample_u8(q[k]).sample;
-        k += 1;
-    }
-}
-
-// The same of 12-bit samples.
-pub fn put_row_12bit(output: &mut [u16], at: usize, q: &[i64])
-    requires { at + length q.now ≤ length output.old }
-    ensures { output.new ≡ paste output.old at (map sample12bit q.now) (length q.now) }
-{
-    let mut k = 0;
-    while k < q.len() {
-        output[at + k] = sample_12bit(q[k]);
-        k += 1;
-    }
-}
-
-// The answer of a block that is refused.
-pub fn refused(number: u32) -> Clamped
-    ensures { result ≡ refused_by number }
-{
-    Clamped {
-        status: number,
-        raised: 0,
-        lowered: 0,
+    for k in 0..q.len() {
+        output[at + k] = q[k].sample();
     }
 }
 
@@ -175,7 +107,6 @@ pub fn clamped(tally: u32) -> Clamped
     ensures { result ≡ clamped_by tally }
 {
     Clamped {
-        status: 0,
         raised: tally % 256,
         lowered: tally / 256,
     }

@@ -1,11 +1,11 @@
 -- What the calls of demand 3 answer, made one after the other for two blocks and one table.
-use Rattle.std.specs.Prelude.{false, List, [], ◌∷◌, ◌≡◌, ℕ, eqb, ℤ}
+use Rattle.std.specs.Prelude.{Bool, false, List, [], ◌∷◌, ◌≡◌, ℕ, eqb, ℤ}
 use Rattle.integers.specs.Fits16.{Fits16}
 use Rattle.lists.specs.Every.{Every}
-use Rattle.refusals.specs.Refusals.{Test, ◌unless◌, ◌of◌, status, written}
+use Rattle.refusals.specs.Refusals.{Test, ◌unless◌, ◌of◌, written}
+use Rattle.refusals.specs.Numbers.{Answer}
 use Rattle.forward.specs.Canonical.{coefficients_at, up_to}
 use Rattle.stored_blocks.specs.Stored.{same_blocks}
-use Rattle.stored_blocks.specs.declared.Answer.{Answer}
 use Rattle.bounds.specs.Demand3.{Alike, Alike12bit, Near}
 
 -- by the lengths: 1, a block not of 64 places; 2, a table not of 64; 3, an output not of 64
@@ -23,14 +23,14 @@ round_trip_tests a b quant coefficients_a coefficients_b products samples produc
     ∷ []
 
 -- whether the coefficients of two blocks with this centre are the same
-unfoldable pub compared_result : ℕ → ℕ → List ℕ → List ℕ → List ℕ → Answer
-compared_result centre s a b quant = record { status = s; yes = written s (same_blocks (coefficients_at centre a quant) (coefficients_at centre b quant)) false }
+unfoldable pub compared_result : ℕ → ℕ → List ℕ → List ℕ → List ℕ → Answer Bool
+compared_result centre s a b quant = record { status = s; value = written s (same_blocks (coefficients_at centre a quant) (coefficients_at centre b quant)) false }
 
 -- of 8 and of 12 bits
-abbrev pub compared_answer : ℕ → List ℕ → List ℕ → List ℕ → Answer
+abbrev pub compared_answer : ℕ → List ℕ → List ℕ → List ℕ → Answer Bool
 compared_answer s a b quant = compared_result 128 s a b quant
 
-abbrev pub compared_answer12bit : ℕ → List ℕ → List ℕ → List ℕ → Answer
+abbrev pub compared_answer12bit : ℕ → List ℕ → List ℕ → List ℕ → Answer Bool
 compared_answer12bit s a b quant = compared_result 2048 s a b quant
 
 -- "Both halves together are one claim, about what the calls write": the coefficients ca and cb of blocks a and b, and, from ca, the products

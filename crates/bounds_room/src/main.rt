@@ -5,18 +5,15 @@
 #![tactic(auto)]
 
 mod alike;
-mod alike_12bit;
-mod exact;
 mod found;
 mod found_12bit;
 mod near;
-mod print;
 
 use std::io;
 
 fn main(rt: HostRuntime) -> io::Result<()> {
     crate::alike::report(&rt)?;
     crate::near::report(&rt)?;
-    crate::alike_12bit::report(&rt)?;
+    crate::alike::report_12bit(&rt)?;
     println!(rt)
 }

@@ -1,7 +1,5 @@
 // The second half: a block, a table, and the sample that comes back at one place.
-use crate::exact::{apart, plus_product};
 use crate::found::{BLOCK, BLOCK_TABLE, X, Y};
-use crate::print::item;
 use basis::basis_table;
 use round_trip::round_trip;
 use std::io;
@@ -12,65 +10,47 @@ const PLACE: usize = 8 * Y + X;
 // without its sign.
 const ENTRY: usize = 4 * (7 - Y) + X;
 
-// The absolute value of a basis integer.
-fn absolute(entry: i32) -> u64 {
-    quantize::unsigned_abs(entry as i64)
-}
-
-// 2^34 and the sum of d(n) times the absolute value of the basis integer for n at (X, Y).
+// 2^34 and the sum of d(n) times the absolute value of the basis integer for n at (X, Y). The sum
+// does not reach 2^53, so nothing wraps.
 fn weighted_basis(quant: &[u8; 64]) -> u64 {
     let table = basis_table();
-    let mut total = 0x4_0000_0000;
-    for n in 0..64 {
-        total = plus_product(total, apart(quant[n], 0), absolute(table[16 * n + ENTRY]));
-    }
-    total
+    let entries = table.as_chunks::<16>().0;
+    quant
+        .iter()
+        .zip(entries)
+        .fold(0x4_0000_0000, |total: u64, (d, entry)| {
+            let weight = u64::from(entry[ENTRY].unsigned_abs());
+            total.wrapping_add(u64::from(*d).wrapping_mul(weight))
+        })
 }
 
 // The block's coefficients, dequantized and handed to the inverse: the sample that comes back. A
 // refusal leaves 0.
 fn sample_back(block: &[u8; 64], quant: &[u8; 64]) -> u8 {
-    let mut coefficients_a = [0i16; 64];
-    let mut coefficients_b = [0i16; 64];
-    let mut products = [0i16; 64];
     let mut samples = [0u8; 64];
-    let mut products_i32 = [0i32; 64];
-    let mut samples_i32 = [0u8; 64];
-    round_trip(
+    let _ = round_trip(
         block,
         block,
         quant,
-        &mut coefficients_a,
-        &mut coefficients_b,
-        &mut products,
+        &mut [0; 64],
+        &mut [0; 64],
+        &mut [0; 64],
         &mut samples,
-        &mut products_i32,
-        &mut samples_i32,
+        &mut [0; 64],
+        &mut [0; 64],
     );
     samples[PLACE]
 }
 
-fn line(rt: &impl Print, a: u8, c: u8, bound: u64) -> io::Result<()> {
-    item(rt, "): sample ", a as u64)?;
-    item(rt, " comes back as ", c as u64)?;
-    item(
-        rt,
-        "; 2^33 times their difference ",
-        0x2_0000_0000 * apart(a, c),
-    )?;
-    item(rt, ", 2^34 and the weighted basis ", bound)
-}
-
 // Apart from `report`, whose proof alone carries the tables.
 fn compared(rt: &impl Print, block: &[u8; 64], quant: &[u8; 64]) -> io::Result<()> {
-    item(rt, "\nplace (", X as u64)?;
-    item(rt, ", ", Y as u64)?;
-    line(
-        rt,
-        block[PLACE],
-        sample_back(block, quant),
-        weighted_basis(quant),
-    )
+    let sample = block[PLACE];
+    let back = sample_back(block, quant);
+    let difference = 0x2_0000_0000 * u64::from(sample.abs_diff(back));
+    let weighted = weighted_basis(quant);
+    print!(rt; "\nplace ({X}, {Y}): sample {sample} comes back as {back}")?;
+    print!(rt; "; 2^33 times their difference {difference}")?;
+    print!(rt; ", 2^34 and the weighted basis {weighted}")
 }
 
 pub fn report(rt: &impl Print) -> io::Result<()> {

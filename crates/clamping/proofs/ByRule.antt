@@ -2,14 +2,14 @@
 -- Assumes nothing.
 use mathlib.Core.Path.{◌≡◌, refl, sym, ap, ◌∙◌}
 use mathlib.Core.Bool.{Bool, true, false, cond}
-use Prim.Native.Nat.{ℕ, suc, ◌+◌, ◌-◌, ◌^◌, ◌≤◌, zero-le, min}
+use Prim.Native.Nat.{ℕ, suc, ◌+◌, ◌-◌, ◌*◌, ◌≤◌, zero-le, min}
 use native.Mathlib.Omega.{arith}
 use borrow.Author.Tests.{ltb-true, ltb-false, lt-ltb, le-ltb, leb-true, leb-false}
 use lib.Dec.{ltb, leb}
 use lib.IntN.{ℤ, pos, negsuc, nat_abs, ◌+ℤ◌}
 use lib.Signed.{lt_z}
-use mir.Syntax.{w16, w32}
-use mir.Val.{SFits}
+use mir.Syntax.{w32}
+use Rattle.std.specs.Int.{from_bool}
 use Rattle.integers.specs.Fits16.{Fits16}
 use Rattle.integers.specs.Wrap.{wrap}
 use Rattle.integers.proofs.Fits16.{fits16-abs}
@@ -69,21 +69,25 @@ module _ (top : ℕ) where
   rule-within (negsuc n) g h = let e : ◌≡◌ {A = ℕ} 0 1 = cc in absurd (omega arith)
 
   -- what the rule adds to each count
-  pub raised_is : (z : ℤ) → cond (lt_z z (pos 0)) 1 0 ≡ raised_one (rule_to top z)
+  pub raised_is : (z : ℤ) → from_bool (lt_z z (pos 0)) ≡ raised_one (rule_to top z)
   raised_is z = go (lt_z z (pos 0)) (lt_z (pos top) z) refl refl
     where
-      go : (s t : Bool) → lt_z z (pos 0) ≡ s → lt_z (pos top) z ≡ t → cond s 1 0 ≡ raised_one (rule_to top z)
+      go : (s t : Bool) → lt_z z (pos 0) ≡ s → lt_z (pos top) z ≡ t → from_bool s ≡ raised_one (rule_to top z)
       go true t g h = ap raised_one (rule-raised z g)
       go false true g h = ap raised_one (rule-lowered z h)
       go false false g h = ap raised_one (rule-within z g h)
 
-  pub lowered_is : (z : ℤ) → cond (lt_z (pos top) z) 1 0 ≡ lowered_one (rule_to top z)
+  pub lowered_is : (z : ℤ) → from_bool (lt_z (pos top) z) ≡ lowered_one (rule_to top z)
   lowered_is z = go (lt_z z (pos 0)) (lt_z (pos top) z) refl refl
     where
-      go : (s t : Bool) → lt_z z (pos 0) ≡ s → lt_z (pos top) z ≡ t → cond t 1 0 ≡ lowered_one (rule_to top z)
+      go : (s t : Bool) → lt_z z (pos 0) ≡ s → lt_z (pos top) z ≡ t → from_bool t ≡ lowered_one (rule_to top z)
       go s true g h = ap lowered_one (rule-lowered z h)
       go true false g h = ap lowered_one (rule-raised z g)
       go false false g h = ap lowered_one (rule-within z g h)
+
+-- both counts, by the tests of a sum
+pub tally_is : (top : ℕ) (z : ℤ) → from_bool (lt_z z (pos 0)) + 256 * from_bool (lt_z (pos top) z) ≡ tally_one (rule_to top z)
+tally_is top z i = raised_is top z i + 256 * lowered_is top z i
 
 -- ---- a 16-bit number: its sum with 128 does not wrap, and is judged before 128 is added
 
@@ -110,42 +114,9 @@ above-127 (negsuc n) = go (ltb 128 (suc n)) refl
     go true t = rw t refl
     go false t = rw t (sym (le-ltb 255 (128 - suc n) (omega arith)))
 
-module _ (v : ℤ) (f : Fits16 v) where
-  pub raised-16 : cond (lt_z v (negsuc 127)) 1 0 ≡ raised_one (rule_u8 v)
-  unfolding rule_u8
-  raised-16 = ap (λ (t : Bool). cond t 1 0) (below-128 v) ∙ raised_is 255 (v +ℤ pos 128) ∙ ap (λ (z : ℤ). raised_one (rule_to 255 z)) (sym (sum-16 v f))
-
-  pub lowered-16 : cond (lt_z (pos 127) v) 1 0 ≡ lowered_one (rule_u8 v)
-  unfolding rule_u8
-  lowered-16 = ap (λ (t : Bool). cond t 1 0) (above-127 v) ∙ lowered_is 255 (v +ℤ pos 128) ∙ ap (λ (z : ℤ). lowered_one (rule_to 255 z)) (sym (sum-16 v f))
-
--- held to 127 before 128 is added: the sum fits 16 bits, and clamped it is the sample
-held-sum : (v : ℤ) → Fits16 v → SFits w16 (cond (lt_z (pos 127) v) (pos 127) v +ℤ pos 128) × (clamp_to (2 ^ 15 - 1) (cond (lt_z (pos 127) v) (pos 127) v +ℤ pos 128) ≡ clamp_to 255 (v +ℤ pos 128))
-unfolding clamp_to
-held-sum (pos n) f = go (ltb 127 n) refl
-  where
-    go : (t : Bool) → ltb 127 n ≡ t → SFits w16 (cond t (pos 127) (pos n) +ℤ pos 128) × (clamp_to (2 ^ 15 - 1) (cond t (pos 127) (pos n) +ℤ pos 128) ≡ min (n + 128) 255)
-    go true t = let l = ltb-true 127 n t in (record { sfits = omega arith }, omega arith)
-    go false t = let l = ltb-false 127 n t in (record { sfits = omega arith }, omega arith)
-held-sum (negsuc n) f = go (ltb 128 (suc n)) refl
-  where
-    go : (t : Bool) → ltb 128 (suc n) ≡ t → SFits w16 (negsuc n +ℤ pos 128) × (clamp_to (2 ^ 15 - 1) (negsuc n +ℤ pos 128) ≡ clamp_to 255 (negsuc n +ℤ pos 128))
-    go true t = rw t (record { sfits = omega (arith, f.sfits) }, refl)
-    go false t = rw t (record { sfits = omega arith }, omega arith)
-
-pub held_small : (v : ℤ) → Fits16 v → Fits16 (cond (lt_z (pos 127) v) (pos 127) v)
-held_small v f = go (lt_z (pos 127) v)
-  where
-    go : (t : Bool) → Fits16 (cond t (pos 127) v)
-    go true = record { sfits = omega arith }
-    go false = f
-
-pub held_fits : (v : ℤ) → Fits16 v → SFits w16 (cond (lt_z (pos 127) v) (pos 127) v +ℤ pos 128)
-held_fits v f = (held-sum v f).0
-
-pub held-sample : (v : ℤ) → Fits16 v → clamp_to (2 ^ 15 - 1) (cond (lt_z (pos 127) v) (pos 127) v +ℤ pos 128) ≡ sample_u8 v
-unfolding sample_u8
-held-sample v f = (held-sum v f).1 ∙ ap (clamp_to 255) (sym (sum-16 v f))
+pub tally-16 : (v : ℤ) → Fits16 v → from_bool (lt_z v (negsuc 127)) + 256 * from_bool (lt_z (pos 127) v) ≡ tally_one (rule_u8 v)
+unfolding rule_u8
+tally-16 v f = (λ i. from_bool (below-128 v i) + 256 * from_bool (above-127 v i)) ∙ tally_is 255 (v +ℤ pos 128) ∙ ap (λ z. tally_one (rule_to 255 z)) (sym (sum-16 v f))
 
 -- what a rule adds is at most 1
 pub raised-most : (r : Rule) → raised_one r ≤ 1

@@ -1,6 +1,6 @@
 -- Laws of `clamp_to` and `centered`, at any bound, by the tests of the code.
 -- Assumes nothing.
-use mathlib.Core.Path.{◌≡◌, refl, ap}
+use mathlib.Core.Path.{◌≡◌, refl, ap, ◌∙◌}
 use mathlib.Core.Bool.{Bool, true, false}
 use Prim.Native.Nat.{ℕ, suc, ◌+◌, ◌-◌, ◌^◌, ◌≤◌, ◌<◌, min}
 use native.Mathlib.Omega.{arith}
@@ -11,6 +11,8 @@ use lib.Signed.{lt_z, non_neg, mag}
 use mir.Syntax.{Width}
 use mir.Val.{SFits, hbits, to_z, of_z}
 use mir.ValLaws.{to_z-of_z, sfits_le}
+use Rattle.std.specs.Int.{int_max, int_min}
+use Rattle.std.proofs.lemmas.Int.{ints, clamps}
 use Rattle.clamping.specs.Clamping.{clamp_to, centered}
 
 module _ (top : ℕ) where
@@ -89,10 +91,6 @@ pub not-above : (top : ℕ) (z : ℤ) → T (non_neg z) → lt_z (pos top) z ≡
 not-above top (pos n) p h = ltb-false top n h
 not-above top (negsuc n) p h = absurd p
 
--- what a call that clamps gave
-pub clamp-read : (w : Width) (top : ℕ) (z : ℤ) {r : ℤ} → top < 2 ^ hbits w → r ≡ pos (clamp_to top z) → to_z w (of_z w r) ≡ pos (clamp_to top z)
-clamp-read w top z h e = rw e (to_z-of_z w _ (record { sfits = omega (arith, clamp-le top z) }))
-
 module _ (half : ℕ) {x z : ℤ} (e : x ≡ z) where
   pub centered-low : lt_z x (negsuc (half - 1)) ≡ true → negsuc (half - 1) ≡ centered half z
   centered-low h = centered-below half z (rw e at h)
@@ -103,7 +101,28 @@ module _ (half : ℕ) {x z : ℤ} (e : x ≡ z) where
   pub centered-kept : lt_z x (negsuc (half - 1)) ≡ false → lt_z (pos (half - 1)) x ≡ false → x ≡ centered half z
   centered-kept g h = rw e (centered-within half z (rw e at g) (rw e at h))
 
--- what a call with a parameter z gave, moved up by half
-pub centered-sum : (w : Width) (half : ℕ) {z r : ℤ} → SFits w z → 0 < half → r ≡ centered half (to_z w (of_z w z)) →
-    to_z w (of_z w r) +ℤ pos half ≡ pos (clamp_to (half + half - 1) (z +ℤ pos half))
-centered-sum w half {z} f p e = rw (e, to_z-of_z w z f, to_z-of_z w _ (centered-fits half z f)) (centered-up half p z)
+-- ---- as std's `clamp` has them
+
+pub clamp-is : (top : ℕ) (z : ℤ) → int_max (pos 0) (int_min z (pos top)) ≡ pos (clamp_to top z)
+unfolding clamp_to
+clamp-is top (pos n) = omega (arith, ints, clamps)
+clamp-is top (negsuc n) = omega (arith, ints, clamps)
+
+pub centered-is : (half : ℕ) (z : ℤ) → 0 < half → int_max (negsuc (half - 1)) (int_min z (pos (half - 1))) ≡ centered half z
+unfolding centered
+centered-is half (pos n) h = omega (arith, ints, clamps)
+centered-is half (negsuc n) h = omega (arith, ints, clamps)
+
+-- held to the greater side before half is added, and to 0 after it
+pub held-is : (z : ℤ) → int_max (int_min z (pos 127) +ℤ pos 128) (pos 0) ≡ pos (clamp_to 255 (z +ℤ pos 128))
+held-is z = sides z ∙ clamp-is 255 (z +ℤ pos 128)
+  where
+    sides : (z : ℤ) → int_max (int_min z (pos 127) +ℤ pos 128) (pos 0) ≡ int_max (pos 0) (int_min (z +ℤ pos 128) (pos 255))
+    sides z = omega (arith, ints, clamps)
+
+-- what a call with a parameter z gave
+pub clamp-read : (w : Width) (top : ℕ) {x z r : ℤ} → top < 2 ^ hbits w → x ≡ z → r ≡ int_max (pos 0) (int_min x (pos top)) → to_z w (of_z w r) ≡ pos (clamp_to top z)
+clamp-read w top {z = z} h ex e = rw (e, ex, clamp-is top z) (to_z-of_z w _ (record { sfits = omega (arith, clamp-le top z) }))
+
+pub centered-read : (w : Width) (half : ℕ) {z r : ℤ} → SFits w z → 0 < half → r ≡ int_max (negsuc (half - 1)) (int_min (to_z w (of_z w z)) (pos (half - 1))) → to_z w (of_z w r) ≡ centered half z
+centered-read w half {z} f p e = rw (e, to_z-of_z w z f, centered-is half z p) (to_z-of_z w _ (centered-fits half z f))

@@ -1,6 +1,6 @@
 -- The answers of `coefficient_text`, as its contract states them.
 -- Assumes nothing.
-use mathlib.Core.Path.{◌≡◌, refl, ap, ◌∙◌}
+use mathlib.Core.Path.{◌≡◌, refl, sym, ap, ◌∙◌}
 use mathlib.Core.Bool.{true, false}
 use mathlib.Core.List.{List, ◌++◌}
 use Prim.Native.Nat.{ℕ, ◌-◌, ◌≤◌}
@@ -9,10 +9,13 @@ use native.Mathlib.Omega.{arith}
 use lib.ListN.{length, take, drop, replicate, length-append, length-drop}
 use lib.Seq.{take_all}
 use lib.IntN.{ℤ, pos}
+use lib.Dec.{ltb→lt}
+use Rattle.refusals.specs.declared.Refusal.{Refusal}
+use Rattle.refusals.specs.Numbers.{Answer, number}
+use Rattle.refusals.proofs.Numbers.{number-nonzero}
 use Rattle.refusals.specs.Refusals.{status, written, block_tests}
-use Rattle.refusals.proofs.Refusals.{has, lacks, ◌then◌, refused, accepted, answered, left}
+use Rattle.refusals.proofs.Refusals.{has, ◌then◌, accepted, answered, left, passed}
 use Rattle.forward.specs.Canonical.{coefficients}
-use Rattle.coefficient_text.specs.declared.Printed.{Printed}
 use Rattle.coefficient_text.specs.Stores.{Wrote}
 use Rattle.coefficient_text.specs.Lines.{numbers}
 use Rattle.coefficient_text.specs.Text.{refused_text, text}
@@ -30,20 +33,25 @@ coded input h e =
     let all = take_all (length input - 11) (drop 11 input) (omega arith) in
     left _ _ _ (has (ap (λ (l : List ℕ). length l) all ∙ samples) then refl then refl then tt) e ∙ ap (λ (l : List ℕ). coefficients l (replicate 64 1)) all
 
+-- so the call refuses nothing
+pub not-refused : (input : List ℕ) (e : Refusal) → length input ≡ 75 →
+    number e ≡ status (block_tests {B = ℕ} (take (length input - 11) (drop 11 input)) (replicate 64 1) (replicate 64 (pos 0))) → ⊥
+not-refused input e h s =
+    let samples : length (drop 11 input) ≡ 64 = simp length-drop (omega arith) in
+    let all = take_all (length input - 11) (drop 11 input) (omega arith) in
+    let none = s ∙ sym (passed (block_tests {B = ℕ} _ (replicate 64 1) (replicate 64 (pos 0))) (has (ap (λ (l : List ℕ). length l) all ∙ samples) then refl then refl then tt)) in
+    omega (arith, ltb→lt 0 (number e) (number-nonzero e))
+
 module _ (input out : List ℕ) where
-  abbrev answer : ℕ → ℕ → Printed
-  answer s n = record { status = s; count = n }
+  abbrev answer : ℕ → ℕ → Answer ℕ
+  answer s n = record { status = s; value = n }
 
   -- the clauses of the contract
   abbrev Answers : ℕ → ℕ → List ℕ → Type 0
   Answers s n held = (answer s n ≡ printed input out) × ((held ≡ written s (placed input out) out) × (n ≤ length held))
 
   answers : {s n : ℕ} → (s ≡ status (text_tests out)) × (n ≡ written s (length (text input)) 0) → answer s n ≡ printed input out
-  unfolding printed
   answers = answered (length (text input)) 0 (text_tests out) answer
-
-  pub bad-output : (length out ≡ 448 → ⊥) → Answers 3 0 out
-  bad-output h = (answers (refused _ _ _ 0 (lacks h then tt)), ((refused (placed input out) out (text_tests out) 0 (lacks h then tt)).1, omega arith))
 
   refused-text : input-text.accepted input ≡ false → refused_text ≡ text input
   unfolding text

@@ -3,8 +3,6 @@ ghost use Rattle.std.specs.Prelude.{◌+◌, ◌^◌, ◌≤◌, ◌<◌, ◌≡
 ghost use Rattle.coefficient_text.specs.Stores.{Wrote};
 ghost use Rattle.coefficient_text.specs.Lines.{digits, numeral, separator, numbers};
 
-use quantize::unsigned_abs;
-
 // Places of an output: 64 numbers of at most six bytes ("-32768", any number of 16 bits), each with
 // the space or the newline that follows it.
 pub const LINES: usize = 448;
@@ -28,7 +26,7 @@ fn put_decimal(out: &mut [u8], at: usize, z: i16) -> usize
     requires { at + 6 ≤ length out.old }
     ensures { Wrote 6 out.old at (numeral z) out.new result }
 {
-    let size = unsigned_abs(z as i64);
+    let size = (z as i64).unsigned_abs();
     if z < 0 {
         out[at] = b'-';
         return put_digits(out, at + 1, 5, size);
@@ -50,12 +48,10 @@ pub fn put_numbers(cs: &[i16; 64], out: &mut [u8]) -> usize
     ensures { Wrote 448 out.old 0 (numbers cs.now 64) out.new result }
 {
     let mut at = 0;
-    let mut n = 0;
-    while n < 64 {
+    for n in 0..64 {
         at = put_decimal(out, at, cs[n]);
         out[at] = separator_of(n);
         at += 1;
-        n += 1;
     }
     at
 }

@@ -15,9 +15,7 @@ fn main(rt: HostRuntime) -> io::Result<()> {
     let mut input = [0u8; ROOM];
     let got = read_full(&mut rt.reader(), &mut input);
     let mut text = [0u8; TEXT];
-    let printed = coefficient_text(&input[..got], &mut text);
-    match rt.write_all(&text[..printed.count]) {
-        Ok(()) => Ok(()),
-        Err(error) => fail(&rt, "coefficients: standard output", &error),
-    }
+    let count = coefficient_text(&input[..got], &mut text).unwrap_or(0);
+    rt.write_all(&text[..count])
+        .or_else(|error| fail(&rt, "coefficients: standard output", &error))
 }

@@ -8,7 +8,7 @@
 
 ghost use Rattle.std.specs.Prelude.{◌≤◌, ◌≡◌, length};
 
-use coefficient_text::{Printed, TEXT, coefficient_text};
+use coefficient_text::{TEXT, coefficient_text};
 use std::fs::File;
 use std::rt::{Env, Files};
 use std::{env, io};
@@ -20,14 +20,6 @@ const ROOM: usize = 450;
 // The most bytes that are read of a file.
 const INPUT: usize = 4096;
 
-fn text(rt: &impl Print, bytes: &[u8]) -> io::Result<()> {
-    rt.write_all(bytes)
-}
-
-fn number(rt: &impl Print, n: usize) -> io::Result<()> {
-    print!(rt; " {n}")
-}
-
 // No byte of a text is a dot.
 fn dots() -> [u8; ROOM]
     ensures { 450 ≡ length result }
@@ -37,43 +29,23 @@ fn dots() -> [u8; ROOM]
     room
 }
 
-fn report(rt: &impl Print, got: Printed, room: &[u8]) -> io::Result<()> {
-    number(rt, got.status as usize)?;
-    number(rt, got.count)?;
-    text(rt, b"\n")?;
-    text(rt, room)
-}
-
-fn answer(rt: &impl Print, input: &[u8], places: usize) -> io::Result<()>
-    requires { places ≤ 449 }
-{
-    let mut room = dots();
-    let got = coefficient_text(input, &mut room[..places]);
-    report(rt, got, &room)
-}
-
 // A file that cannot be read has no byte, and the line says so.
 fn case(rt: &(impl Files + Print), name: &str, places: usize) -> io::Result<()>
     requires { places ≤ 449 }
 {
     let mut input = [0u8; INPUT];
-    let got = match File::open(rt, name) {
-        Ok(mut file) => read_full(&mut file, &mut input),
-        Err(_) => 0,
-    };
-    text(rt, name.as_bytes())?;
-    number(rt, got)?;
-    number(rt, places)?;
-    answer(rt, &input[..got], places)
-}
-
-fn named(rt: &(impl Files + Print), name: &str) -> io::Result<()> {
-    case(rt, name, TEXT)
+    let read = File::open(rt, name).map_or(0, |mut file| read_full(&mut file, &mut input));
+    let mut room = dots();
+    let got = coefficient_text(&input[..read], &mut room[..places]);
+    let status = got.map_or_else(|refusal| refusal.number(), |_| 0);
+    let count = got.unwrap_or(0);
+    println!(rt; "{name} {read} {places} {status} {count}")?;
+    rt.write_all(&room)
 }
 
 fn each_named(rt: &(impl Files + Env + Print + Alloc)) -> io::Result<()> {
     for name in env::args(rt)?.skip(1) {
-        named(rt, name.as_str())?;
+        case(rt, name.as_str(), TEXT)?;
     }
     Ok(())
 }

@@ -9,54 +9,38 @@
 pub mod block_sums;
 pub mod twelve_bit;
 
-ghost use Rattle.std.specs.Prelude.{◌≡◌, length};
+ghost use Rattle.std.specs.Prelude.{◌≡◌, length, pos};
 ghost use Rattle.forward.specs.Forward.{centred_block};
 ghost use Rattle.refusals.specs.Refusals.{block_tests, status, written};
+ghost use Rattle.refusals.specs.Numbers.{status_of, told};
 ghost use Rattle.forward.specs.Canonical.{coefficients_at, coefficients, coefficient_answer};
 ghost use Rattle.fdct.specs.Level.{Level};
 
 use fdct_block::{coefficient_at, write_coefficients};
-use forward::Coefficient;
+use refusals::Refusal;
+use std::array;
 
-fn wide(x: u8) -> u16
-    ensures { result ≡ x }
-{
-    x as u16
-}
-
-// An 8-bit table, or an 8-bit block, as one of 16 bits.
+// An 8-bit table, or an 8-bit block, as one of 16 bits. It takes a slice, as do `write_block` and
+// `is_12bit`: docs/PROOFS.md names them, and an array would ask more of their callers.
 pub fn widen(narrow: &[u8]) -> [u16; 64]
     requires { length narrow.now ≡ 64 }
     ensures { result ≡ narrow.now }
 {
-    let mut wider = [0u16; 64];
-    let mut i = 0;
-    while i < 64 {
-        wider[i] = wide(narrow[i]);
-        i += 1;
-    }
-    wider
+    array::from_fn(|i| u16::from(narrow[i]))
 }
 
 // The samples less their centre.
-fn level_shift(block: &[u16], centre: u16) -> [i16; 64]
-    requires block_len { length block.now ≡ 64 }
-    requires level { Level block.now centre }
+fn level_shift(block: &[u16; 64], centre: u16) -> [i16; 64]
+    requires { Level block.now centre }
     ensures { result ≡ centred_block centre block.now }
 {
-    let mut samples = [0i16; 64];
-    let mut i = 0;
-    while i < 64 {
-        samples[i] = (block[i] as i16) - (centre as i16);
-        i += 1;
-    }
-    samples
+    array::from_fn(|i| (block[i] as i16) - (centre as i16))
 }
 
 // The coefficients of a block of samples with this centre. Both widths call it, so that the folds are in line behind the level shift: in
 // a function that is handed the shifted samples they are not.
-fn write_centred(block: &[u16], centre: u16, quant: &[u16; 64], out: &mut [i16])
-    requires block_len { (length block.now ≡ 64) × (length out.old ≡ 64) }
+fn write_centred(block: &[u16; 64], centre: u16, quant: &[u16; 64], out: &mut [i16])
+    requires out_len { length out.old ≡ 64 }
     requires level { Level block.now centre }
     ensures { out.new ≡ coefficients_at centre block.now quant.now }
 {
@@ -72,41 +56,28 @@ pub fn write_block(block: &[u8], quant: &[u16; 64], out: &mut [i16])
     write_centred(&widen(block), 128, quant, out);
 }
 
-pub fn fdct_quantize(block: &[u8], quant: &[u8], out: &mut [i16]) -> u32
-    ensures value { result ≡ status (block_tests block.now quant.now out.old) }
-    ensures out_after { out.new ≡ written result (coefficients block.now quant.now) out.old }
+#[tactic(auto, unfolding(refusals::specs::Refusals::status, refusals::specs::Refusals::written))]
+pub fn fdct_quantize(block: &[u8], quant: &[u8], out: &mut [i16]) -> Result<(), Refusal>
+    ensures value { status_of result ≡ status (block_tests block.now quant.now out.old) }
+    ensures out_after { out.new ≡ written (status_of result) (coefficients block.now quant.now) out.old }
 {
-    if block.len() != 64 {
-        return 1;
-    }
-    if quant.len() != 64 {
-        return 2;
-    }
-    if out.len() != 64 {
-        return 3;
-    }
+    Refusal::Block.unless(block.len() == 64)?;
+    Refusal::Table.unless(quant.len() == 64)?;
+    Refusal::Output.unless(out.len() == 64)?;
     write_block(block, &widen(quant), out);
-    0
+    Ok(())
 }
 
-pub fn fdct_quantize_coefficient(block: &[u8], quantizer: u8, natural: usize) -> Coefficient
-    ensures { result ≡ coefficient_answer block.now quantizer natural }
+#[tactic(auto, unfolding(refusals::specs::Refusals::status, refusals::specs::Refusals::written))]
+pub fn fdct_quantize_coefficient(
+    block: &[u8],
+    quantizer: u8,
+    natural: usize,
+) -> Result<i16, Refusal>
+    ensures { told (pos 0) result ≡ coefficient_answer block.now quantizer natural }
 {
-    if block.len() != 64 {
-        return Coefficient {
-            status: 1,
-            value: 0,
-        };
-    }
-    if natural > 63 {
-        return Coefficient {
-            status: 4,
-            value: 0,
-        };
-    }
+    Refusal::Block.unless(block.len() == 64)?;
+    Refusal::Index.unless(natural <= 63)?;
     let samples = level_shift(&widen(block), 128);
-    Coefficient {
-        status: 0,
-        value: coefficient_at(&samples, wide(quantizer), natural),
-    }
+    Ok(coefficient_at(&samples, u16::from(quantizer), natural))
 }

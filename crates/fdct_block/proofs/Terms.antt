@@ -5,14 +5,12 @@ use mathlib.Core.List.{List}
 use native.Mathlib.Omega.{arith}
 use lib.ListN.{get_or}
 use lib.IntN.{ℤ, pos, nat_abs, ◌+ℤ◌, ◌*ℤ◌}
-use mir.Syntax.{w16, w64}
+use mir.Syntax.{w64}
 use mir.Val.{SFits, to_z, of_z}
 use mir.ValLaws.{to_z-of_z}
 use Rattle.integers.proofs.Ring.{nat_abs-+}
 use Rattle.integers.proofs.Bound.{small-fits}
-use Rattle.basis.specs.Basis.{entry, basis_table}
-use Rattle.basis.proofs.Rule.{table-entry}
-use Rattle.quantize.specs.Quantize.{coefficient}
+use Rattle.basis.specs.Basis.{entry}
 use Rattle.forward.specs.Sum.{sum_to}
 use Rattle.forward.specs.Parity.{fold_sum}
 use Rattle.forward.proofs.Sum.{sum-ext}
@@ -53,10 +51,6 @@ module _ (f : List ℤ) (small : (k : ℕ) → nat_abs (get_or f k (pos 0)) ≤ 
   unfolding fold_sum
   by_entries er eb = er ∙ sum-ext 16 _ _ (λ k l. ap (λ (z : ℤ). get_or f k (pos 0) *ℤ z) (eb k l))
 
-  -- of the table
-  pub by-table : {t : List ℤ} {r : ℤ} → t ≡ basis_table → r ≡ sum_to 16 (λ k. get_or f k (pos 0) *ℤ get_or t (16 * n + k) (pos 0)) → r ≡ fold_sum f n
-  by-table et er = by_entries er (λ k l. ap (λ (t : List ℤ). get_or t (16 * n + k) (pos 0)) et ∙ table-entry n h k l)
-
   fold-size : nat_abs (fold_sum f n) ≤ 2 ^ 46
   fold-size = omega (arith, sum-size f (2 ^ 13) small n h)
 
@@ -64,9 +58,3 @@ module _ (f : List ℤ) (small : (k : ℕ) → nat_abs (get_or f k (pos 0)) ≤ 
   read-sum e =
       let z = ap (λ (y : ℤ). to_z w64 (of_z w64 y)) e ∙ to_z-of_z w64 (fold_sum f n) (small-fits w64 _ (omega (arith, fold-size))) in
       (z, subst (λ (y : ℤ). nat_abs y ≤ 2 ^ 46) (sym z) fold-size)
-
--- what a call of `quantize` answered, at 16 bits
-pub kept-coefficient : (d : ℕ) {q z s : ℤ} → (q ≡ coefficient z d) × (nat_abs q < 2 ^ 15) → z ≡ s → (to_z w16 (of_z w16 q) ≡ coefficient s d) × (nat_abs (to_z w16 (of_z w16 q)) < 2 ^ 15)
-kept-coefficient d {q} {z} {s} e es =
-    let kept = to_z-of_z w16 q (small-fits w16 q e.1) in
-    (kept ∙ e.0 ∙ ap (λ (y : ℤ). coefficient y d) es, subst (λ (y : ℤ). nat_abs y < 2 ^ 15) (sym kept) e.1)

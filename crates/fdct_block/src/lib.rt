@@ -12,37 +12,38 @@ mod folds;
 mod parity;
 mod sums;
 
-ghost use Rattle.std.specs.Prelude.{◌≡◌, ℕ, ◌^◌, ◌≤◌, ◌<◌, length, get_or, pos, nat_abs};
+ghost use Rattle.std.specs.Prelude.{◌≡◌, ◌^◌, ◌<◌, length, nat_abs};
 ghost use Rattle.lists.specs.Tab.{tab};
 ghost use Rattle.quantize.specs.Quantize.{coefficient};
+ghost use Rattle.fdct_block.specs.Ready.{Centred};
 ghost use Rattle.forward.specs.Forward.{centred_sum, quantized_sum};
 
 use crate::folds::fold;
-use crate::parity::{write_even_even, write_even_odd, write_odd_even, write_odd_odd};
-use crate::sums::quantized_by_row;
+use crate::parity::write_parity;
+use crate::sums::quantized;
 
 // The 64 coefficients of a block in natural order, those of one parity of (u, v) after the other: the same 16 places hold the quadrant
-// of each in turn.
+// of each in turn. The output is a slice: of one converted to an array nothing is proved.
 pub fn write_coefficients(samples: &[i16; 64], quant: &[u16; 64], out: &mut [i16])
-    requires by_index { (i : ℕ) → nat_abs (get_or samples.now i (pos 0)) ≤ 2 ^ 11 }
+    requires centred { Centred samples.now }
     requires out_len { length out.old ≡ 64 }
     ensures { out.new ≡ tab 64 (quantized_sum samples.now quant.now) }
 {
     let mut quadrant = [0i16; 16];
-    write_even_even(samples, quant, &mut quadrant, out);
-    write_odd_even(samples, quant, &mut quadrant, out);
-    write_even_odd(samples, quant, &mut quadrant, out);
-    write_odd_odd(samples, quant, &mut quadrant, out);
+    write_parity::<0, 0>(samples, quant, &mut quadrant, out);
+    write_parity::<1, 0>(samples, quant, &mut quadrant, out);
+    write_parity::<0, 1>(samples, quant, &mut quadrant, out);
+    write_parity::<1, 1>(samples, quant, &mut quadrant, out);
 }
 
 // Coefficient n of a block, by the one quadrant and the one row of the basis that it needs.
 pub fn coefficient_at(samples: &[i16; 64], quantizer: u16, n: usize) -> i16
-    requires by_index { (i : ℕ) → nat_abs (get_or samples.now i (pos 0)) ≤ 2 ^ 11 }
+    requires centred { Centred samples.now }
     requires n_bound { n < 64 }
     ensures value { result ≡ coefficient (centred_sum samples.now n) quantizer }
     ensures result_bound { nat_abs result < 2 ^ 15 }
 {
     let mut quadrant = [0i16; 16];
     fold(samples, n % 8, n / 8, &mut quadrant);
-    quantized_by_row(&quadrant, quantizer, n)
+    quantized(&quadrant, quantizer, n)
 }

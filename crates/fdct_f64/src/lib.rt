@@ -9,6 +9,7 @@
 mod fdct_8;
 
 ghost use Rattle.std.specs.Prelude.{◌≡◌, ◌+◌, ◌*◌, ◌<◌, [], length, get_or, slice_index, slice_index_or};
+ghost use Rattle.refusals.specs.Numbers.{told};
 ghost use Rattle.guarded_quantizer.specs.Divisors.{aan_scale, has_zero, reciprocal, reciprocals, made_divisors, zero_divisors, divisors_answer};
 ghost use Rattle.std.specs.Float.{nan};
 ghost use Rattle.lists.specs.Tab.{tab};
@@ -16,7 +17,9 @@ ghost use Rattle.guarded_quantizer.specs.Transform.{fdct8};
 ghost use Rattle.guarded_quantizer.specs.Values.{row, fdct_values};
 
 use crate::fdct_8::fdct_8;
-use guarded_quantizer::{MadeDivisors, QuantizationDivisors};
+use guarded_quantizer::QuantizationDivisors;
+use refusals::Refusal;
+use std::array;
 
 // √2·cos(uπ/16), and 1 for u = 0.
 const AAN_SCALE: [f64; 8] = [
@@ -43,75 +46,44 @@ pub fn has_zero(quant: &[u8]) -> bool
     ensures { result ≡ has_zero quant.now }
 {
     let mut found = false;
-    let mut n = 0;
-    while n < 64 {
-        found = found | (quant[n] == 0);
-        n += 1;
+    for q in quant {
+        found |= *q == 0;
     }
     found
 }
 
 // The reciprocals of row v of a table. Of a row, with places known in advance, the compiler makes two divisions at once.
-fn reciprocal_row(quant: &[u8], v: usize) -> [f64; 8]
-    requires quant_len { length quant.now ≡ 64 }
-    requires v_bound { v < 8 }
+fn reciprocal_row(quant: &[u8; 64], v: usize) -> [f64; 8]
+    requires { v < 8 }
     ensures { result ≡ tab 8 (λ u. reciprocal (slice_index quant.now (8 * v + u)) u v) }
 {
     let scale = aan_scale();
-    let mut made = [0.0f64; 8];
-    let mut u = 0;
-    while u < 8 {
-        made[u] = 1.0 / (8.0 * scale[u] * scale[v] * (quant[8 * v + u] as f64));
-        u += 1;
-    }
-    made
+    array::from_fn(|u| 1.0 / (8.0 * scale[u] * scale[v] * (quant[8 * v + u] as f64)))
 }
 
-fn reciprocals_of(quant: &[u8]) -> [f64; 64]
-    requires { length quant.now ≡ 64 }
+fn reciprocals_of(quant: &[u8; 64]) -> [f64; 64]
     ensures { result ≡ reciprocals quant.now }
 {
     let mut made = [0.0f64; 64];
-    let mut v = 0;
-    while v < 8 {
+    for v in 0..8 {
         let row = reciprocal_row(quant, v);
-        let mut u = 0;
-        while u < 8 {
+        for u in 0..8 {
             made[8 * v + u] = row[u];
-            u += 1;
         }
-        v += 1;
     }
     made
 }
 
-fn refused(status: u32) -> MadeDivisors
-    ensures { result ≡ made_divisors status zero_divisors }
-{
-    MadeDivisors {
-        status,
-        divisors: QuantizationDivisors {
-            reciprocals: [0.0f64; 64],
-        },
-    }
-}
-
 // `QuantizationDivisors::new`.
-pub fn quantization_divisors(quant: &[u8]) -> MadeDivisors
-    ensures { result ≡ divisors_answer quant.now }
+#[tactic(auto, unfolding(guarded_quantizer::specs::Divisors::divisors_answer, refusals::specs::Refusals::status, refusals::specs::Refusals::written))]
+pub fn quantization_divisors(quant: &[u8]) -> Result<QuantizationDivisors, Refusal>
+    ensures { told (made_divisors zero_divisors) result ≡ divisors_answer quant.now }
 {
-    if quant.len() != 64 {
-        return refused(2);
-    }
-    if has_zero(quant) {
-        return refused(5);
-    }
-    MadeDivisors {
-        status: 0,
-        divisors: QuantizationDivisors {
-            reciprocals: reciprocals_of(quant),
-        },
-    }
+    let quant: &[u8; 64] = quant.try_into().map_err(|_| Refusal::Table)?;
+    Refusal::ZeroQuantizer.unless(!has_zero(quant))?;
+    Ok(QuantizationDivisors {
+        reciprocals: reciprocals_of(quant),
+    })
 }
 
 // Row y of a block, each sample less 128.
@@ -120,13 +92,7 @@ fn load_row(block: &[u8], y: usize) -> [f64; 8]
     requires y_bound { y < 8 }
     ensures { result ≡ row block.now y }
 {
-    let mut input = [0.0f64; 8];
-    let mut x = 0;
-    while x < 8 {
-        input[x] = (block[8 * y + x] as f64) - 128.0;
-        x += 1;
-    }
-    input
+    array::from_fn(|x| (block[8 * y + x] as f64) - 128.0)
 }
 
 // The transform of each row.
@@ -135,10 +101,8 @@ fn fdct_rows(block: &[u8]) -> [[f64; 8]; 8]
     ensures { result ≡ tab 8 (λ y. fdct8 (row block.now y)) }
 {
     let mut rows = [[0.0f64; 8]; 8];
-    let mut y = 0;
-    while y < 8 {
+    for y in 0..8 {
         rows[y] = fdct_8(load_row(block, y));
-        y += 1;
     }
     rows
 }
@@ -148,13 +112,7 @@ fn load_column(rows: &[[f64; 8]; 8], u: usize) -> [f64; 8]
     requires { u < 8 }
     ensures { result ≡ tab 8 (λ y. get_or (slice_index_or rows.now y []) u nan) }
 {
-    let mut input = [0.0f64; 8];
-    let mut y = 0;
-    while y < 8 {
-        input[y] = rows[y][u];
-        y += 1;
-    }
-    input
+    array::from_fn(|y| rows[y][u])
 }
 
 // `fdct_values_scalar`: the transform of the rows, then of the columns.
@@ -164,15 +122,11 @@ pub fn fdct_values(block: &[u8]) -> [f64; 64]
 {
     let rows = fdct_rows(block);
     let mut values = [0.0f64; 64];
-    let mut u = 0;
-    while u < 8 {
+    for u in 0..8 {
         let column = fdct_8(load_column(&rows, u));
-        let mut v = 0;
-        while v < 8 {
+        for v in 0..8 {
             values[8 * v + u] = column[v];
-            v += 1;
         }
-        u += 1;
     }
     values
 }

@@ -1,11 +1,9 @@
 -- What the call answers, of what it worked out. Assumes nothing.
 use mathlib.Core.Path.{◌≡◌, refl, sym, ap, ◌∙◌}
-use mathlib.Core.Bool.{Bool, true, cond}
 use mathlib.Core.List.{List}
-use Prim.Native.Nat.{ℕ, suc, ◌+◌, ◌-◌, ◌*◌, ◌≤◌, ◌<◌, min}
+use Prim.Native.Nat.{ℕ, suc, ◌+◌, ◌-◌, ◌≤◌, min}
 use native.Mathlib.Omega.{arith}
-use borrow.Author.Tests.{eqb-true, eq-eqb, ne_eqb}
-use lib.Dec.{eqb}
+use borrow.Author.Tests.{eqb-true}
 use lib.ListN.{length, get_or}
 use Rattle.lists.specs.Tab.{tab}
 use Rattle.lists.proofs.Tab.{length-tab}
@@ -15,11 +13,8 @@ use Rattle.plane.specs.Ready.{PlaneOf}
 use Rattle.plane.proofs.Coding.{measured-range}
 use Rattle.percent.specs.Percent.{percent_table}
 use Rattle.percent.proofs.Nonzeros.{plane-nonzeros}
-use Rattle.fewest.specs.Fewest.{plane_error, plane_nonzeros, error_at, count_at, percents_tried, best, far_off, search_tests, best_percent, fewest_answer}
-use Rattle.fewest.specs.Blocks.{percent_tables, table_of, first_of, found_of, at_percent}
-use Rattle.fewest.specs.declared.Found.{Found}
-use Rattle.fewest.specs.declared.Found.TheVariants.{NoneGood, Good}
-use Rattle.fewest.specs.declared.Fewest.{Fewest}
+use Rattle.fewest.specs.Fewest.{Found, NoneGood, Good, plane_error, plane_nonzeros, error_at, count_at, percents_tried, best, far_off, search_tests, best_percent, fewest_answer}
+use Rattle.fewest.specs.Blocks.{percent_tables, table_of, first_of, at_percent}
 use Rattle.fewest.proofs.Tables.{table-percent}
 use Rattle.fewest.proofs.Growing.{first-at}
 use Rattle.fewest.proofs.Searching.{best-same}
@@ -54,9 +49,9 @@ module _ (samples : List ℕ) (w h : ℕ) (base : List ℕ) (limit given : ℕ) 
       λ i. record { status = e i; found = held found NoneGood e z i; off = held (far_off (count_at samples w h base) found) 0 e z i; trials = held (length (percents_tried given)) 0 e z i }
 
   -- of what the call worked out
-  module _ {n best₀ : ℕ} {tables errors counts : List ℕ} {last : ℕ} (en : n ≡ min given 200) (et : tables ≡ percent_tables base)
+  module _ {n : ℕ} {f : Found} {tables errors counts : List ℕ} {last : ℕ} (en : n ≡ min given 200) (et : tables ≡ percent_tables base)
       (ee : errors ≡ first_of n (λ p. plane_error samples w h (table_of tables p))) (ec : counts ≡ first_of n (λ p. plane_nonzeros samples w h (table_of tables p)))
-      (el : last ≡ plane_nonzeros samples w h (table_of tables 199)) (eb : found_of best₀ ≡ best limit (at_percent errors) (at_percent counts) (tab n suc)) (most : best₀ ≤ n) where
+      (el : last ≡ plane_nonzeros samples w h (table_of tables 199)) (eb : f ≡ best limit (at_percent errors) (at_percent counts) (tab n suc)) where
     table : (p : ℕ) → 1 ≤ p → p ≤ 200 → table_of tables (p - 1) ≡ percent_table base p
     table p a b =
         let e : p - 1 + 1 ≡ p = omega arith in
@@ -74,19 +69,19 @@ module _ (samples : List ℕ) (w h : ℕ) (base : List ℕ) (limit given : ℕ) 
     unfolding count_at
     last-is = el ∙ ap (plane_nonzeros samples w h) (table 200 (omega arith) (omega arith))
 
-    found-is : found_of best₀ ≡ best_percent samples w h base limit given
+    found-is : f ≡ best_percent samples w h base limit given
     unfolding best_percent percents_tried
     found-is =
         eb ∙ best-same limit _ _ _ _ n error-is count-is ∙ ap (λ (m : ℕ). best limit (error_at samples w h base) (count_at samples w h base) (tab m suc)) en
 
     -- the count at percent 200 is the least
-    pub last-least : (best₀ ≡ 0 → ⊥) → last ≤ at_percent counts best₀
-    last-least z = omega (arith, last-is, count-is best₀ (omega arith) most, count-falls samples w h base best₀ 200 (omega arith))
+    pub last-least : (p : ℕ) → 1 ≤ p → p ≤ n → last ≤ at_percent counts p
+    last-least p a b = omega (arith, last-is, count-is p a b, count-falls samples w h base p 200 (omega arith))
 
-    answered : {f : Found} {o : ℕ} → 0 ≡ status (search_tests samples w h base) → f ≡ best_percent samples w h base limit given → o ≡ far_off (count_at samples w h base) f →
-        record { status = 0; found = f; off = o; trials = n } ≡ fewest_answer samples w h base limit given
+    answered : {g : Found} {o : ℕ} → 0 ≡ status (search_tests samples w h base) → g ≡ best_percent samples w h base limit given → o ≡ far_off (count_at samples w h base) g →
+        record { status = 0; found = g; off = o; trials = n } ≡ fewest_answer samples w h base limit given
     unfolding fewest_answer
-    answered {f} e ef eo =
+    answered {g} e ef eo =
         let s = sym e in
         λ i. record {
           status = e i;
@@ -95,16 +90,10 @@ module _ (samples : List ℕ) (w h : ℕ) (base : List ℕ) (limit given : ℕ) 
           trials = wrote (length (percents_tried given)) 0 s (en ∙ sym (trial-number given)) i;
         }
 
-    pub none-good : 0 ≡ status (search_tests samples w h base) → best₀ ≡ 0 → record { status = 0; found = NoneGood; off = 0; trials = n } ≡ fewest_answer samples w h base limit given
+    pub none-good : 0 ≡ status (search_tests samples w h base) → f ≡ NoneGood → record { status = 0; found = NoneGood; off = 0; trials = n } ≡ fewest_answer samples w h base limit given
     unfolding far_off
-    none-good e z = answered e (found z ∙ found-is) refl
-      where
-        found : best₀ ≡ 0 → NoneGood ≡ found_of best₀
-        found z = unfold found_of in simp (eq-eqb best₀ 0 z) refl
+    none-good e z = answered e (sym z ∙ found-is) refl
 
-    pub some_good : 0 ≡ status (search_tests samples w h base) → (best₀ ≡ 0 → ⊥) → record { status = 0; found = Good best₀; off = at_percent counts best₀ - last; trials = n } ≡ fewest_answer samples w h base limit given
+    pub some_good : 0 ≡ status (search_tests samples w h base) → (p : ℕ) → 1 ≤ p → p ≤ n → f ≡ Good p → record { status = 0; found = Good p; off = at_percent counts p - last; trials = n } ≡ fewest_answer samples w h base limit given
     unfolding far_off
-    some_good e z = answered e (found z ∙ found-is) (λ i. count-is best₀ (omega arith) most i - last-is i)
-      where
-        found : (best₀ ≡ 0 → ⊥) → Good best₀ ≡ found_of best₀
-        found z = unfold found_of in simp (ne_eqb best₀ 0 z) refl
+    some_good e p a b z = answered e (sym z ∙ found-is) (λ i. count-is p a b i - last-is i)

@@ -1,19 +1,18 @@
 -- The errors and counts of 200 percents, of which the first n grow with each block. Assumes nothing.
-use mathlib.Core.Path.{◌≡◌, refl, sym, ap, ap₂, subst, ◌∙◌}
+use mathlib.Core.Path.{◌≡◌, refl, sym, ap, ◌∙◌}
 use mathlib.Core.Bool.{Bool, true, false, cond}
 use mathlib.Core.List.{List}
-use Prim.Native.Nat.{ℕ, zero, suc, ◌+◌, ◌*◌, ◌^◌, ◌≤◌, ◌<◌, zero-le}
+use Prim.Native.Nat.{ℕ, zero, suc, ◌+◌, ◌≤◌, ◌<◌, zero-le}
 use native.Mathlib.Decide.{dec_lt, ℕ_discrete}
-use native.Mathlib.Numerals.{add-one}
 use native.Mathlib.Omega.{arith}
 use borrow.Author.Tests.{lt-ltb, le-ltb}
 use lib.Dec.{ltb}
-use lib.ListN.{length, get_or, set, length-set, replicate}
+use lib.ListN.{length, get_or, set, length-set, replicate, get_or-map}
 use lib.Seq.{get_or-set_same, get_or-set_other}
-use Rattle.lists.specs.Tab.{tab}
 use Rattle.lists.proofs.Tab.{length-tab, get_d-tab, get_d-every, tab-ext, by-elements}
-use Rattle.forward.specs.Sum.{total}
-use Rattle.fewest.specs.Blocks.{first_of, grown}
+use Rattle.std.proofs.lemmas.List.{map-set, length-map}
+use Rattle.fewest.specs.Blocks.{first_of, grown, errors_in, counts_in}
+use Rattle.fewest.specs.declared.Tried.{Tried}
 
 -- ---- a loop over the percents: the first k of 200 numbers grew
 
@@ -109,3 +108,38 @@ first-most n f m h = get_d-every (λ v. v ≤ m) 200 _ 0 zero-le (λ p b. go (lt
 pub grown-ext : (n : ℕ) (f g : ℕ → ℕ) (l : List ℕ) → ((p : ℕ) → f p ≡ g p) → grown n f l ≡ grown n g l
 unfolding grown
 grown-ext n f g l h = tab-ext 200 _ _ (λ p b. ap (λ (v : ℕ). get_or l p 0 + cond (ltb p n) v 0) (h p))
+
+-- ---- errors and counts, side by side
+
+abbrev pub zero-tried : Tried
+zero-tried = record { error = 0; count = 0 }
+
+module _ (all : List Tried) where
+  pub error-in : (p : ℕ) → get_or (errors_in all) p 0 ≡ (get_or all p zero-tried).error
+  unfolding errors_in
+  error-in p = get_or-map (λ (t : Tried). t.error) all p zero-tried
+
+  pub count-in : (p : ℕ) → get_or (counts_in all) p 0 ≡ (get_or all p zero-tried).count
+  unfolding counts_in
+  count-in p = get_or-map (λ (t : Tried). t.count) all p zero-tried
+
+  pub errors-set : (p : ℕ) (t : Tried) → errors_in (set all p t) ≡ set (errors_in all) p t.error
+  unfolding errors_in
+  errors-set p t = map-set (λ (t : Tried). t.error) all p t
+
+  pub counts-set : (p : ℕ) (t : Tried) → counts_in (set all p t) ≡ set (counts_in all) p t.count
+  unfolding counts_in
+  counts-set p t = map-set (λ (t : Tried). t.count) all p t
+
+  pub errors-long : length (errors_in all) ≡ length all
+  unfolding errors_in
+  errors-long = length-map all (λ (t : Tried). t.error)
+
+  pub counts-long : length (counts_in all) ≡ length all
+  unfolding counts_in
+  counts-long = length-map all (λ (t : Tried). t.count)
+
+-- none tried yet
+pub none-tried : (errors_in (replicate 200 zero-tried) ≡ replicate 200 0) × (counts_in (replicate 200 zero-tried) ≡ replicate 200 0)
+unfolding errors_in counts_in
+none-tried = (refl, refl)

@@ -1,17 +1,15 @@
-use mathlib.Core.Path.{◌≡◌, refl, sym, ap, ap₂, subst, ◌∙◌}
+use mathlib.Core.Path.{◌≡◌, refl, sym, ap, ap₂, ◌∙◌}
 use mathlib.Core.List.{List}
-use Prim.Native.Nat.{ℕ, ◌+◌, ◌-◌, ◌*◌, ◌^◌, ◌≤◌, ◌<◌}
-use borrow.Author.Rules.{rules}
-use native.Mathlib.Nat.{mul-le-mul}
+use Prim.Native.Nat.{ℕ, ◌+◌, ◌*◌, ◌^◌, ◌≤◌}
 use native.Mathlib.Numerals.{add-one}
 use native.Mathlib.Omega.{arith}
-use lib.ListN.{length, get_or, replicate}
+use lib.ListN.{get_or, replicate}
 use Rattle.forward.specs.Sum.{total}
 use Rattle.plane.specs.Plane.{blocks}
 use Rattle.fewest.specs.Fewest.{plane_error, plane_nonzeros}
 use Rattle.fewest.specs.Blocks.{table_of, error_of, count_of, first_of, grown, Room}
 use Rattle.fewest.proofs.Tiles.{error-blocks}
-use Rattle.fewest.proofs.Growing.{first-long, first-none, first_more, first-most, first-ext}
+use Rattle.fewest.proofs.Growing.{first-none, first_more, first-most, first-ext}
 use Rattle.fewest.proofs.Trials.{errors-most, counts-most, count-blocks}
 
 -- the sums of the first k blocks
@@ -26,12 +24,9 @@ module _ {samples : List ℕ} {w h : ℕ} {tables : List ℕ} {n : ℕ} where
   none e c = record { errors-are = e ∙ first-none _ _ (λ p. refl); counts-are = c ∙ first-none _ _ (λ p. refl); last-is = refl }
 
   module _ {k : ℕ} {errors counts : List ℕ} {last : ℕ} (s : Sums samples w h tables n k errors counts last) where
-    pub room : ((i : ℕ) → get_or samples i 0 ≤ 255) → length tables ≡ 12800 → k ≤ 512 * 512 → Room tables errors counts
-    room bytes long few =
+    pub room : ((i : ℕ) → get_or samples i 0 ≤ 255) → k ≤ 512 * 512 → Room errors counts
+    room bytes few =
         record {
-          tables-long = long;
-          errors-long = ap length s.errors-are ∙ first-long _ _;
-          counts-long = ap length s.counts-are ∙ first-long _ _;
           errors-most = λ p. rw s.errors-are (first-most n _ (2 ^ 62) (λ q. omega (arith, errors-most samples bytes w h (table_of tables q) k)) p);
           counts-most = λ p. rw s.counts-are (first-most n _ (2 ^ 62) (λ q. omega (arith, counts-most samples w h (table_of tables q) k)) p);
         }

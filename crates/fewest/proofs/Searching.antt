@@ -2,19 +2,14 @@
 use mathlib.Core.Path.{◌≡◌, refl, sym, ap, subst, ◌∙◌}
 use mathlib.Core.Bool.{Bool, true, false, cond, ◌&&◌, ◌||◌}
 use mathlib.Core.List.{List, [], ◌∷◌, ◌++◌}
-use Prim.Native.Nat.{ℕ, zero, suc, ◌+◌, ◌-◌, ◌≤◌, ◌<◌, min}
+use Prim.Native.Nat.{ℕ, zero, suc, ◌+◌, ◌≤◌, ◌<◌}
 use native.Mathlib.Decide.{dec_lt}
 use native.Mathlib.Numerals.{add-one}
 use native.Mathlib.Omega.{arith}
-use borrow.Author.Tests.{leb-true, leb-false, ltb-true, ltb-false, eqb-true, eqb-false, lt-ltb, le-ltb, eq-eqb, ne_eqb, le-leb, lt-leb}
+use borrow.Author.Tests.{ltb-true, ltb-false, eqb-true, eqb-false, lt-ltb, le-ltb, eq-eqb, ne_eqb, le-leb, lt-leb}
 use lib.Dec.{leb, ltb, eqb}
-use lib.ListN.{length}
 use Rattle.lists.specs.Tab.{tab}
-use Rattle.lists.proofs.Tab.{length-tab}
-use Rattle.fewest.specs.Fewest.{percents_tried, good, preferred, better, tried, searched, best, percent_of, far_off}
-use Rattle.fewest.specs.Blocks.{found_of}
-use Rattle.fewest.specs.declared.Found.{Found}
-use Rattle.fewest.specs.declared.Found.TheVariants.{NoneGood, Good}
+use Rattle.fewest.specs.Fewest.{Found, NoneGood, Good, good, preferred, better, tried, searched, best}
 
 -- p has fewer nonzeros than q, or as many and no smaller percent
 pub record Before (count : ℕ → ℕ) (p q : ℕ) : Type 0 where
@@ -139,29 +134,26 @@ module _ (limit : ℕ) (e e' c c' : ℕ → ℕ) where
       ∙ ap (λ (f : Found). cond (leb (e' (suc n)) limit) (better c' f (suc n)) f) before
       ∙ sym (best-more limit e' c' n)
 
--- ---- as the code has it: the percent found, or 0
+-- ---- as the code has it
 
-module _ (limit : ℕ) (error count : ℕ → ℕ) (found p : ℕ) (later : found < p) where
-  abbrev after : Found
-  after = tried limit error count (found_of found) p
-
-  pub not_good : limit < error p → found_of found ≡ after
+module _ (limit : ℕ) (error count : ℕ → ℕ) (p : ℕ) where
+  pub not_good : (f : Found) → limit < error p → f ≡ tried limit error count f p
   unfolding tried good
-  not_good h = simp (lt-leb (error p) limit h) refl
+  not_good f h = simp (lt-leb (error p) limit h) refl
 
-  pub first_good : error p ≤ limit → found ≡ 0 → found_of p ≡ after
-  unfolding tried good found_of better
-  first_good h e = simp (le-leb (error p) limit h, e, ne_eqb p 0 (λ z. omega arith)) refl
+  pub first_good : error p ≤ limit → Good p ≡ tried limit error count NoneGood p
+  unfolding tried good better
+  first_good h = simp (le-leb (error p) limit h) refl
 
-  pub better-good : error p ≤ limit → (found ≡ 0 → ⊥) → count p ≤ count found → found_of p ≡ after
-  unfolding tried good found_of better
-  better-good h z l = simp (le-leb (error p) limit h, ne_eqb found 0 z, ne_eqb p 0 (λ z. omega arith), preferred-later count p found later l) refl
+  pub better-good : (q : ℕ) → q < p → error p ≤ limit → count p ≤ count q → Good p ≡ tried limit error count (Good q) p
+  unfolding tried good better
+  better-good q b h l = simp (le-leb (error p) limit h, preferred-later count p q b l) refl
 
-  pub worse-good : error p ≤ limit → (found ≡ 0 → ⊥) → count found < count p → found_of found ≡ after
-  unfolding tried good found_of better
-  worse-good h z l = simp (le-leb (error p) limit h, ne_eqb found 0 z, preferred-not count p found l) refl
+  pub worse-good : (q : ℕ) → error p ≤ limit → count q < count p → Good q ≡ tried limit error count (Good q) p
+  unfolding tried good better
+  worse-good q h l = simp (le-leb (error p) limit h, preferred-not count p q l) refl
 
-pub found-next : (limit : ℕ) (error count : ℕ → ℕ) (n f r : ℕ) → found_of f ≡ best limit error count (tab n suc) →
-    found_of r ≡ tried limit error count (found_of f) (n + 1) → found_of r ≡ best limit error count (tab (n + 1) suc)
-found-next limit error count n f r e t =
+pub found-next : (limit : ℕ) (error count : ℕ → ℕ) (n : ℕ) {f r : Found} → f ≡ best limit error count (tab n suc) →
+    r ≡ tried limit error count f (n + 1) → r ≡ best limit error count (tab (n + 1) suc)
+found-next limit error count n e t =
     t ∙ (λ i. tried limit error count (e i) (add-one n i)) ∙ sym (best-more limit error count n) ∙ ap (λ (m : ℕ). best limit error count (tab m suc)) (sym (add-one n))

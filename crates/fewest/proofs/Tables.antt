@@ -4,9 +4,8 @@ use mathlib.Core.List.{List}
 use Prim.Native.Nat.{ℕ, ◌+◌, ◌*◌, ◌/◌, ◌%◌, ◌≤◌, ◌<◌}
 use native.Mathlib.Omega.{arith}
 use lib.ListN.{length, get_or}
-use lib.Seq.{paste}
 use Rattle.lists.specs.Grid.{grid}
-use Rattle.lists.proofs.Tab.{length-tab, get_d-tab, tab-ext, by-elements, Filled, none, same, all, filled-paste}
+use Rattle.lists.proofs.Tab.{length-tab, tab-ext, by-elements, Filled, none, same, all, filled-paste}
 use Rattle.lists.proofs.Grid.{column-of, row_of, length-grid, grid-at}
 use Rattle.lists.proofs.Parts.{lent, length-lent, lent_at, back, part-back}
 use Rattle.percent.specs.Percent.{percent_divisor, percent_table}

@@ -1,24 +1,20 @@
 -- Document 02, card 12: what the search finds. Of the answer of a call that is not refused `answer-found` and `answer-off` say that it is
 -- this. Assumes nothing.
-use mathlib.Core.Path.{◌≡◌, refl, sym, ap, subst, ◌∙◌}
-use mathlib.Core.Bool.{Bool, true, false}
+use mathlib.Core.Path.{◌≡◌, refl, sym, subst}
+use mathlib.Core.Bool.{true}
 use mathlib.Core.List.{List}
-use Prim.Native.Nat.{ℕ, suc, ◌+◌, ◌-◌, ◌*◌, ◌^◌, ◌≤◌, ◌<◌, min}
+use Prim.Native.Nat.{ℕ, ◌+◌, ◌^◌, ◌≤◌, ◌<◌, min}
 use native.Mathlib.Nat.{mul-le-mul}
 use native.Mathlib.Omega.{arith}
 use borrow.Author.Tests.{leb-true, leb-false, le-leb}
-use lib.Dec.{leb}
-use lib.ListN.{length, get_or}
-use Rattle.lists.specs.Tab.{tab}
-use Rattle.refusals.specs.Refusals.{status, written}
+use lib.ListN.{get_or}
+use Rattle.refusals.specs.Refusals.{status}
 use Rattle.refusals.proofs.Refusals.{wrote}
 use Rattle.plane.specs.Plane.{blocks}
 use Rattle.percent.specs.Percent.{percent_table}
 use Rattle.percent.proofs.Nonzeros.{plane-nonzeros-most}
-use Rattle.fewest.specs.Fewest.{plane_nonzeros, error_at, count_at, percents_tried, good, best, far_off, search_tests, best_percent, fewest_answer}
-use Rattle.fewest.specs.declared.Found.{Found}
-use Rattle.fewest.specs.declared.Found.TheVariants.{NoneGood, Good}
-use Rattle.fewest.proofs.Searching.{Before, best_none, Outcome, outcome}
+use Rattle.fewest.specs.Fewest.{Found, NoneGood, Good, plane_nonzeros, error_at, count_at, percents_tried, good, far_off, search_tests, best_percent, fewest_answer}
+use Rattle.fewest.proofs.Searching.{best_none, Outcome, outcome}
 use Rattle.fewest.proofs.Trials.{plane-error-most}
 use Rattle.fewest.proofs.Answers.{count-falls}
 

@@ -11,7 +11,7 @@ use borrow.Author.Tests.{lt-ltb, le-ltb}
 use lib.Dec.{ltb}
 use lib.ListN.{get_or}
 use Rattle.lists.specs.Grid.{grid, at}
-use Rattle.lists.proofs.Grid.{placed, grid-at, column-of, row_of}
+use Rattle.lists.proofs.Grid.{placed, grid-at}
 use Rattle.passes.specs.Passes.{eight}
 use Rattle.forward.specs.Sum.{total}
 use Rattle.forward.specs.Canonical.{coefficients}

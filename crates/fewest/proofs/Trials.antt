@@ -1,20 +1,20 @@
 -- The trial of a block of a plane, of its sums; and how large errors and counts are: no sum of them overflows for a plane within the sizes.
 -- Assumes nothing.
-use mathlib.Core.Path.{◌≡◌, refl, sym, ap, subst, ◌∙◌}
+use mathlib.Core.Path.{◌≡◌, ap, ◌∙◌}
 use mathlib.Core.Bool.{Bool, true, false, cond}
 use mathlib.Core.List.{List}
-use Prim.Native.Nat.{ℕ, ◌+◌, ◌-◌, ◌*◌, ◌/◌, ◌%◌, ◌^◌, ◌≤◌, ◌<◌, min, zero-le}
-use native.Mathlib.Nat.{le_trans, le_of_eq, mul-le-mul, mul-le-mul_right}
+use Prim.Native.Nat.{ℕ, ◌-◌, ◌*◌, ◌/◌, ◌%◌, ◌≤◌, min, zero-le}
+use native.Mathlib.Nat.{le_trans, le_of_eq, mul-le-mul}
 use native.Mathlib.Omega.{arith}
 use lib.Dec.{ltb}
-use lib.ListN.{length, get_or}
+use lib.ListN.{get_or}
 use lib.IntN.{ℤ, pos, negsuc, nat_abs, ◌+ℤ◌, ◌-ℤ◌}
 use mir.Syntax.{w32}
 use Rattle.integers.specs.Wrap.{wrap}
 use Rattle.integers.proofs.Difference.{distance}
 use Rattle.lists.specs.Tab.{tab}
 use Rattle.lists.specs.Grid.{grid}
-use Rattle.lists.proofs.Tab.{length-tab, get_d-tab, get_d-every, tab-ext}
+use Rattle.lists.proofs.Tab.{get_d-tab, get_d-every, tab-ext}
 use Rattle.quantize.specs.Quantize.{coefficient}
 use Rattle.clamping.specs.Clamping.{clamp_to, sample_u8}
 use Rattle.passes.specs.Passes.{Size, eight}
@@ -24,7 +24,7 @@ use Rattle.forward.specs.Forward.{scaled_sum}
 use Rattle.forward.specs.Canonical.{canonical_at, coefficients_at, coefficients}
 use Rattle.forward.proofs.Sum.{total-le, total-const}
 use Rattle.plane.specs.Plane.{blocks, sample_at, block_at, block_of}
-use Rattle.plane.specs.Scale.{full, fitted, block_samples}
+use Rattle.plane.specs.Scale.{block_samples}
 use Rattle.percent.specs.Nonzeros.{nonzeros}
 use Rattle.percent.proofs.Nonzeros.{nonzeros-most, plane-nonzeros-sum}
 use Rattle.fewest.specs.Fewest.{squared, plane_error, plane_nonzeros}

@@ -1,5 +1,5 @@
 -- What the call works out, one block and one table at a time.
-use Rattle.std.specs.Prelude.{cond, List, ◌≡◌, ℕ, ◌+◌, ◌-◌, ◌*◌, ◌/◌, ◌%◌, ◌^◌, ◌≤◌, min, eqb, ltb, ℤ, pos, length, get_or}
+use Rattle.std.specs.Prelude.{cond, map, List, ℕ, ◌+◌, ◌-◌, ◌*◌, ◌/◌, ◌%◌, ◌^◌, ◌≤◌, min, ltb, ℤ, pos, get_or}
 use Rattle.lists.specs.Tab.{tab}
 use Rattle.lists.specs.Grid.{grid, at}
 use Rattle.quantize.specs.Quantize.{coefficient}
@@ -11,8 +11,7 @@ use Rattle.percent.specs.Percent.{percent_divisor}
 use Rattle.percent.specs.Nonzeros.{nonzeros}
 use Rattle.fewest.specs.Fewest.{squared}
 use Rattle.fewest.specs.declared.Trial.{Trial}
-use Rattle.fewest.specs.declared.Found.{Found}
-use Rattle.fewest.specs.declared.Found.TheVariants.{NoneGood, Good}
+use Rattle.fewest.specs.declared.Tried.{Tried}
 
 -- the tables at percents 1 to 200, one after the other
 unfoldable pub percent_tables : List ℕ → List ℕ
@@ -59,17 +58,17 @@ first_of n f = tab 200 (λ p. cond (ltb p n) (f p) 0)
 unfoldable pub grown : ℕ → (ℕ → ℕ) → List ℕ → List ℕ
 grown n f l = tab 200 (λ p. get_or l p 0 + cond (ltb p n) (f p) 0)
 
--- 200 tables, and two arrays of 200 numbers that can grow
-pub record Room (tables errors counts : List ℕ) : Type 0 where
-  pub tables-long : length tables ≡ 12800
-  pub errors-long : length errors ≡ 200
-  pub counts-long : length counts ≡ 200
+-- the errors and the counts of what was tried
+unfoldable pub errors_in : List Tried → List ℕ
+errors_in all = map (λ t. t.error) all
+
+unfoldable pub counts_in : List Tried → List ℕ
+counts_in all = map (λ t. t.count) all
+
+-- errors and counts that can grow
+pub record Room (errors counts : List ℕ) : Type 0 where
   pub errors-most : (p : ℕ) → get_or errors p 0 ≤ 2 ^ 62
   pub counts-most : (p : ℕ) → get_or counts p 0 ≤ 2 ^ 62
-
--- the found percent as a number, 0 for none
-unfoldable pub found_of : ℕ → Found
-found_of p = cond (eqb p 0) NoneGood (Good p)
 
 -- the number at percent p, of a list from percent 1 on
 unfoldable pub at_percent : List ℕ → ℕ → ℕ

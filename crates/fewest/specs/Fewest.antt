@@ -8,9 +8,19 @@ use Rattle.plane.specs.Plane.{plane_coefficients, size_tests}
 use Rattle.plane.specs.Scale.{full, recoded}
 use Rattle.percent.specs.Percent.{percent_table}
 use Rattle.percent.specs.Nonzeros.{nonzeros}
-use Rattle.fewest.specs.declared.Found.{Found}
-use Rattle.fewest.specs.declared.Found.TheVariants.{NoneGood, Good}
-use Rattle.fewest.specs.declared.Fewest.{Fewest}
+
+-- what the search found: none tried is good, or the percent
+pub data Found : Type 0 where
+  NoneGood : Found
+  Good : ℕ → Found
+
+-- what the call answers: 0 or a refusal's number; what was found; how far off it is at most; and the number of trials. After a refusal
+-- nothing is found, and the numbers are 0
+pub record Fewest : Type 0 where
+  pub status : ℕ
+  pub found : Found
+  pub off : ℕ
+  pub trials : ℕ
 
 -- ---- one trial: the plane coded and decoded under a table
 

@@ -1,2 +1,3 @@
 pub mod Fewest
+pub mod Told
 pub mod Blocks

@@ -1,46 +1,37 @@
 // The search over errors and counts that are worked out: the list's place p - 1 is percent p's.
-ghost use Rattle.std.specs.Prelude.{◌≡◌, ◌≤◌, ◌<◌, length, suc};
+ghost use Rattle.std.specs.Prelude.{◌≡◌, ◌≤◌, ◌<◌, suc, IfSome};
 ghost use Rattle.lists.specs.Tab.{tab};
 ghost use Rattle.fewest.specs.Fewest.{tried, best};
-ghost use Rattle.fewest.specs.Blocks.{found_of, at_percent};
+ghost use Rattle.fewest.specs.Told.{found_in};
+ghost use Rattle.fewest.specs.Blocks.{errors_in, counts_in, at_percent};
 
-// The better one of a percent found before, or 0 for none, and a larger one, p.
-fn better_percent(
-    limit: u64,
-    errors: &[u64; 200],
-    counts: &[u64; 200],
-    found: usize,
-    p: usize,
-) -> usize
-    requires errors_len { (length errors.now ≡ 200) × (length counts.now ≡ 200) }
-    requires found_lt_p { (found < p) × (p ≤ 200) }
-    ensures result_value { found_of result ≡ tried limit (at_percent errors.now) (at_percent counts.now) (found_of found) p }
-    ensures upper_bound { result ≤ p }
+use crate::Tried;
+
+// The better one of a percent found before, if any, and a larger one, p.
+fn better_percent(limit: u64, all: &[Tried; 200], found: Option<usize>, p: usize) -> Option<usize>
+    requires found_lt_p { IfSome found (λ q. (1 ≤ q) × (q < p)) }
+    requires p_bound { (1 ≤ p) × (p ≤ 200) }
+    ensures value { found_in result ≡ tried limit (at_percent (errors_in all.now)) (at_percent (counts_in all.now)) (found_in found) p }
+    ensures bounds { IfSome result (λ q. (1 ≤ q) × (q ≤ p)) }
 {
-    if errors[p - 1] > limit {
+    if all[p - 1].error > limit {
         return found;
     }
-    if found == 0 {
-        return p;
+    match found {
+        Some(q) if all[q - 1].count < all[p - 1].count => found,
+        _ => Some(p),
     }
-    if counts[p - 1] <= counts[found - 1] {
-        return p;
-    }
-    found
 }
 
-// The best of percents 1 to n, or 0 where none is good.
-pub fn best_percent(limit: u64, errors: &[u64; 200], counts: &[u64; 200], n: usize) -> usize
-    requires errors_len { (length errors.now ≡ 200) × (length counts.now ≡ 200) }
-    requires n_bound { n ≤ 200 }
-    ensures result_value { found_of result ≡ best limit (at_percent errors.now) (at_percent counts.now) (tab n suc) }
-    ensures upper_bound { result ≤ n }
+// The best of percents 1 to n, if one is good.
+pub fn best_percent(limit: u64, all: &[Tried; 200], n: usize) -> Option<usize>
+    requires { n ≤ 200 }
+    ensures value { found_in result ≡ best limit (at_percent (errors_in all.now)) (at_percent (counts_in all.now)) (tab n suc) }
+    ensures bounds { IfSome result (λ q. (1 ≤ q) × (q ≤ n)) }
 {
-    let mut found = 0;
-    let mut p = 0;
-    while p < n {
-        p += 1;
-        found = better_percent(limit, errors, counts, found, p);
+    let mut found = None;
+    for p in 0..n {
+        found = better_percent(limit, all, found, p + 1);
     }
     found
 }

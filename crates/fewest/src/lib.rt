@@ -14,27 +14,19 @@ mod totals;
 
 ghost use Rattle.std.specs.Prelude.{◌≡◌, ◌≤◌, min};
 ghost use Rattle.refusals.specs.Refusals.{status};
+ghost use Rattle.refusals.specs.Numbers.{status_of};
 ghost use Rattle.fewest.specs.Fewest.{search_tests, fewest_answer};
+ghost use Rattle.fewest.specs.Told.{told};
 
 use crate::choice::best_percent;
 use crate::totals::{add_plane, percent_tables};
-use plane::is_measured;
+use plane::Plane;
+use refusals::Refusal;
 
-// What the search found.
-#[derive(Clone, Copy)]
-pub enum Found {
-    // None tried is good.
-    NoneGood,
-    // The percent.
-    Good(u32),
-}
-
-// What the call answers: 0 or a refusal's number; what was found; how far off it is at most; and the number of trials. After a refusal
-// nothing is found, and the numbers are 0.
-#[derive(Clone, Copy)]
+// What the search found: the percent, where one that was tried is good; how far off it is at most; and the number of trials.
+#[derive(Clone, Copy, Debug, PartialEq, Eq)]
 pub struct Fewest {
-    pub status: u32,
-    pub found: Found,
+    pub found: Option<u32>,
     pub off: u64,
     pub trials: u32,
 }
@@ -46,33 +38,36 @@ struct Trial {
     count: u32,
 }
 
+// What it makes of the blocks of a plane so far.
+#[derive(Clone, Copy)]
+struct Tried {
+    error: u64,
+    count: u64,
+}
+
 // At most 200 percents are tried.
 fn trials_of(given: u32) -> usize
     ensures value { result ≡ min given 200 }
     ensures upper_bound { result ≤ 200 }
 {
-    if given < 200 { given as usize } else { 200 }
+    given.min(200) as usize
 }
 
-// The number of the refusal, or 0, without searching.
-pub fn search_status(samples: &[u8], width: usize, height: usize, base: &[u8]) -> u32
-    ensures { result ≡ status (search_tests samples.now width height base.now) }
+// The tests of the search, without searching.
+#[tactic(auto, unfolding(refusals::specs::Refusals::status, crate::specs::Fewest::search_tests))]
+pub fn search_status(
+    samples: &[u8],
+    width: usize,
+    height: usize,
+    base: &[u8],
+) -> Result<(), Refusal>
+    ensures { status_of result ≡ status (search_tests samples.now width height base.now) }
 {
-    if !is_measured(width) {
-        return 8;
-    }
-    if !is_measured(height) {
-        return 8;
-    }
-    if samples.len() != width * height {
-        return 9;
-    }
-    if base.len() != 64 {
-        return 2;
-    }
-    0
+    Plane::new(samples, width, height)?;
+    Refusal::Table.unless(base.len() == 64)
 }
 
+#[tactic(auto, unfolding(refusals::specs::Refusals::status, refusals::specs::Refusals::written, crate::specs::Fewest::search_tests, crate::specs::Fewest::fewest_answer))]
 pub fn fewest_coefficients(
     samples: &[u8],
     width: usize,
@@ -80,36 +75,29 @@ pub fn fewest_coefficients(
     base: &[u8],
     limit: u64,
     trials: u32,
-) -> Fewest
-    ensures { result ≡ fewest_answer samples.now width height base.now limit trials }
+) -> Result<Fewest, Refusal>
+    ensures { told result ≡ fewest_answer samples.now width height base.now limit trials }
 {
-    let status = search_status(samples, width, height, base);
-    if status != 0 {
-        return Fewest {
-            status,
-            found: Found::NoneGood,
-            off: 0,
-            trials: 0,
-        };
-    }
+    search_status(samples, width, height, base)?;
+    let plane = Plane {
+        samples,
+        width,
+        height,
+    };
     let n = trials_of(trials);
     let tables = percent_tables(base);
-    let mut errors = [0u64; 200];
-    let mut counts = [0u64; 200];
-    let last = add_plane(samples, width, height, &tables, n, &mut errors, &mut counts);
-    let best = best_percent(limit, &errors, &counts, n);
-    if best == 0 {
-        return Fewest {
-            status: 0,
-            found: Found::NoneGood,
+    let mut tried = [Tried { error: 0, count: 0 }; 200];
+    let last = add_plane(plane, &tables, n, &mut tried);
+    match best_percent(limit, &tried, n) {
+        Some(p) => Ok(Fewest {
+            found: Some(p as u32),
+            off: tried[p - 1].count - last,
+            trials: n as u32,
+        }),
+        None => Ok(Fewest {
+            found: None,
             off: 0,
             trials: n as u32,
-        };
-    }
-    Fewest {
-        status: 0,
-        found: Found::Good(best as u32),
-        off: counts[best - 1] - last,
-        trials: n as u32,
+        }),
     }
 }

@@ -11,8 +11,9 @@
 
 ghost use Rattle.std.specs.Prelude.{◌≤◌};
 
-use fewest::{Found, fewest_coefficients};
-use pgm::{Answer, header_of};
+use fewest::{Fewest, fewest_coefficients};
+use pgm::{Header, header_of};
+use refusals::Refusal;
 use std::io;
 use streams::read_full;
 
@@ -24,22 +25,8 @@ const K1: [u8; 64] = [
     92, 49, 64, 78, 87, 103, 121, 120, 101, 72, 92, 95, 98, 112, 100, 103, 99,
 ];
 
-fn refuse(rt: &impl Eprint, number: u32) -> io::Result<()> {
-    eprintln!(rt; "refused {number}")
-}
-
-fn item(rt: &impl Print, label: &str, n: u64) -> io::Result<()> {
-    print!(rt; "{label}{n}")
-}
-
-fn show_found(rt: &impl Print, found: Found, off: u64) -> io::Result<()> {
-    match found {
-        Found::NoneGood => print!(rt; ": none tried is good"),
-        Found::Good(percent) => {
-            item(rt, ": ", percent as u64)?;
-            item(rt, " percent, off by at most ", off)
-        }
-    }
+fn refuse(rt: &impl Eprint, refusal: Refusal) -> io::Result<()> {
+    eprintln!(rt; "{refusal}")
 }
 
 // What is found for a squared error of `mean` a sample.
@@ -53,45 +40,42 @@ fn show(
 ) -> io::Result<()>
     requires { (width ≤ 4096) × (height ≤ 4096) }
 {
-    let limit = (mean as u64) * ((width * height) as u64);
-    let answer = fewest_coefficients(samples, width, height, base, limit, 200);
-    item(rt, "squared error ", limit)?;
-    show_found(rt, answer.found, answer.off)?;
-    item(rt, ", tried ", answer.trials as u64)?;
-    println!(rt)
-}
-
-fn show_all(
-    rt: &impl Print,
-    samples: &[u8],
-    width: usize,
-    height: usize,
-    base: &[u8; 64],
-) -> io::Result<()>
-    requires { (width ≤ 4096) × (height ≤ 4096) }
-{
-    show(rt, samples, width, height, base, 0)?;
-    show(rt, samples, width, height, base, 1)?;
-    show(rt, samples, width, height, base, 4)?;
-    show(rt, samples, width, height, base, 16)?;
-    show(rt, samples, width, height, base, 64)?;
-    show(rt, samples, width, height, base, 256)
+    let limit = u64::from(mean) * (width * height) as u64;
+    let none = Fewest {
+        found: None,
+        off: 0,
+        trials: 0,
+    };
+    let Fewest { found, off, trials } = fewest_coefficients(
+        samples, width, height, base, limit, 200,
+    ).unwrap_or(none);
+    print!(rt; "squared error {limit}")?;
+    match found {
+        None => print!(rt; ": none tried is good")?,
+        Some(percent) => print!(rt; ": {percent} percent, off by at most {off}")?,
+    }
+    println!(rt; ", tried {trials}")
 }
 
 fn show_picture(rt: &(impl Print + Eprint), bytes: &[u8], base: &[u8; 64]) -> io::Result<()> {
     match header_of(bytes) {
-        Answer::Header {
-            width,
-            height,
-            length,
-        } => {
+        Ok(
+            Header {
+                width,
+                height,
+                length,
+            },
+        ) => {
             let end = length + width * height;
             if bytes.len() < end {
-                return refuse(rt, 10);
+                return refuse(rt, Refusal::Picture);
             }
-            show_all(rt, &bytes[length..end], width, height, base)
+            for mean in [0, 1, 4, 16, 64, 256] {
+                show(rt, &bytes[length..end], width, height, base, mean)?;
+            }
+            Ok(())
         }
-        Answer::Refused(number) => refuse(rt, number),
+        Err(refusal) => refuse(rt, refusal),
     }
 }
 

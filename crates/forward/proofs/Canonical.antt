@@ -28,5 +28,4 @@ block-coefficients centre block quant = tab-ext 64 _ _ (λ n b. ap (λ (S : ℤ)
 
 pub one-answers : (block : List ℕ) (q n : ℕ) {s : ℕ} {z : ℤ} → (s ≡ status (coefficient_tests block n)) × (z ≡ written s (coefficient (scaled_sum 128 block n) q) (pos 0)) →
     record { status = s; value = z } ≡ coefficient_answer block q n
-unfolding coefficient_answer
 one-answers block q n = answered (coefficient (scaled_sum 128 block n) q) (pos 0) (coefficient_tests block n) (λ s z. record { status = s; value = z })

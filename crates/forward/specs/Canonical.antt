@@ -4,10 +4,10 @@
 use Rattle.std.specs.Prelude.{Bool, ◌≡◌, List, [], ◌∷◌, ◌++◌, map, ℕ, ◌+◌, ◌≤◌, leb, length, get_or, ℤ, pos}
 use Rattle.lists.specs.Tab.{tab}
 use Rattle.lists.specs.Below.{below}
-use Rattle.refusals.specs.Refusals.{Test, ◌unless◌, ◌of◌, block_tests, status, written}
+use Rattle.refusals.specs.Refusals.{Test, ◌unless◌, ◌of◌, block_tests}
+use Rattle.refusals.specs.Numbers.{Answer, answer}
 use Rattle.forward.specs.Forward.{scaled_sum}
 use Rattle.quantize.specs.Quantize.{coefficient}
-use Rattle.forward.specs.declared.Coefficient.{Coefficient}
 
 -- any 64 numbers from 0 to a limit, a block's samples or a table's quantizers
 pub record UpTo (limit : ℕ) (l : List ℕ) : Type 0 where
@@ -57,7 +57,5 @@ raised k block = map (λ (s : ℕ). s + k) block
 abbrev pub coefficient_tests : List ℕ → ℕ → List Test
 coefficient_tests block n = 1 unless block of 64 ∷ 4 unless leb n 63 ∷ []
 
-unfoldable pub coefficient_answer : List ℕ → ℕ → ℕ → Coefficient
-coefficient_answer block quantizer n =
-    let s = status (coefficient_tests block n) in
-    record { status = s; value = written s (coefficient (scaled_sum 128 block n) quantizer) (pos 0) }
+abbrev pub coefficient_answer : List ℕ → ℕ → ℕ → Answer ℤ
+coefficient_answer block quantizer n = answer (coefficient_tests block n) (coefficient (scaled_sum 128 block n) quantizer) (pos 0)

@@ -2,10 +2,3 @@
 // The code is in fdct_block and fdct.
 
 #![tactic(auto)]
-
-// What `fdct_quantize_coefficient` answers: status 0 and the coefficient, or a refusal's number and 0.
-#[derive(Clone, Copy)]
-pub struct Coefficient {
-    pub status: u32,
-    pub value: i16,
-}

@@ -5,8 +5,6 @@
 
 #![tactic(auto)]
 
-pub mod fix_i64;
-
 ghost use Rattle.std.specs.Prelude.{◌≡◌};
 ghost use Rattle.gains.specs.Gains.{gains};
 ghost use Rattle.gains.specs.Bounds.{gain_bounds};

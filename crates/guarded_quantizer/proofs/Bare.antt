@@ -87,7 +87,7 @@ module _ (block quant : List ℕ) (rs : List Float) (e : (guarded_answer block q
   unfolding guarded_answer
   none-failed = e
 
-  pub made-record : (guarded_answer block quant rs).block ≡ record_of quant (coefficients_of block quant rs)
+  pub made-record : (guarded_answer block quant rs).value ≡ record_of quant (coefficients_of block quant rs)
   unfolding guarded_answer
   made-record = sym (wrote _ _ none-failed refl)
 
@@ -95,19 +95,19 @@ module _ (block quant : List ℕ) (rs : List Float) (e : (guarded_answer block q
   table-long = eqb-true _ _ (passed-all (guarded_tests block quant) tt none-failed).1.0
 
   -- "all divisors" are those of demand 3: no quantizer is 0
-  pub divisors-are : (n : ℕ) → n < 64 → get_or (guarded_answer block quant rs).block.divisors n 0 ≡ divisor_of (get_or quant n 0)
+  pub divisors-are : (n : ℕ) → n < 64 → get_or (guarded_answer block quant rs).value.divisors n 0 ≡ divisor_of (get_or quant n 0)
   unfolding record_of divisor_of
   divisors-are n h =
       let some = no_zero quant n (passed-all (guarded_tests block quant) tt none-failed).1.1.0 (omega (arith, table-long)) in
       ap (λ (r : QuantizedBlock). get_or r.divisors n 0) made-record ∙ (omega arith)
 
-  pub bare-answer : bare_block (guarded_answer block quant rs).block ≡ tab 64 (coefficients_of block quant rs)
+  pub bare-answer : bare_block (guarded_answer block quant rs).value ≡ tab 64 (coefficients_of block quant rs)
   bare-answer = ap bare_block made-record ∙ bare-made quant (coefficients_of block quant rs)
 
 -- two such answers whose records are the same: their tables are one, and so are their coefficients
 module _ (block quant : List ℕ) (rs : List Float) (block' quant' : List ℕ) (rs' : List Float)
     (e : (guarded_answer block quant rs).status ≡ 0) (e' : (guarded_answer block' quant' rs').status ≡ 0)
-    (same : T (same_records (guarded_answer block quant rs).block (guarded_answer block' quant' rs').block)) where
+    (same : T (same_records (guarded_answer block quant rs).value (guarded_answer block' quant' rs').value)) where
   pub same_tables : quant ≡ quant'
   unfolding record_of
   same_tables =

@@ -4,16 +4,10 @@ use Rattle.std.specs.Prelude.{◌≡◌, ℕ, List, get_or, replicate, pos}
 use mathlib.Core.Path.{refl}
 use lib.Ieee.{Float, nan, binary64, mul, div, of_int, of_bits, round}
 use Rattle.lists.specs.Tab.{tab}
-use Rattle.refusals.specs.Refusals.{status, written}
-use Rattle.refusals.proofs.Refusals.{answered}
 use Rattle.guarded_quantizer.specs.Literals.{decimal}
-use Rattle.guarded_quantizer.specs.Divisors.{aan_scale, reciprocal, reciprocals, table_tests, made_divisors, zero_divisors, divisors_answer}
+use Rattle.guarded_quantizer.specs.Divisors.{aan_scale, reciprocal, zero_divisors}
 
-pub divisors-answer : (quant : List ℕ) {s : ℕ} {l : List Float} → (s ≡ status (table_tests quant)) × (l ≡ written s (reciprocals quant) zero_divisors) → made_divisors s l ≡ divisors_answer quant
-unfolding divisors_answer
-divisors-answer quant = answered (reciprocals quant) zero_divisors (table_tests quant) made_divisors
-
--- 64 times the zero of all bits 0
+-- what a refusal holds by value: 64 times the zero of all bits 0
 pub zeros : replicate 64 (of_bits binary64 0) ≡ zero_divisors
 unfolding of_bits round tab decimal zero_divisors
 zeros = refl

@@ -9,7 +9,7 @@ use borrow.Author.Tests.{eqb-true}
 use lib.Dec.{ltb→lt, nltb→le}
 use lib.Pow.{pow-add, pow_pos}
 use lib.IntN.{neg_ℤ-neg_ℤ, neg_ℤ-+ℤ, pos-+ℤ-pos, negsuc-*ℤ-pos, *ℤ_comm}
-use lib.Ieee.{Float, nan, inf, fin, binary64, up, down, size, units, round, unlike, sum, neg, add, mul, div}
+use lib.Ieee.{Float, nan, inf, fin, binary64, up, down, round, unlike, sum, neg, add, mul, div}
 use lib.Ieee.Fits.{down_pos}
 use lib.Ieee.Exact.{HasValue}
 use lib.Ieee.Scale.{round_same}

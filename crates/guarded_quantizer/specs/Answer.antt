@@ -2,13 +2,13 @@
 use Rattle.std.specs.Prelude.{ℕ, cond, List, ◌∷◌, ℤ, pos}
 use Rattle.std.specs.Prelude.{Float}
 use Rattle.lists.specs.Tab.{tab}
-use Rattle.refusals.specs.Refusals.{Test, ◌unless◌, ◌of◌, status, written}
+use Rattle.refusals.specs.Refusals.{Test, ◌unless◌, ◌of◌}
+use Rattle.refusals.specs.Numbers.{Answer, answer}
 use Rattle.guarded_quantizer.specs.Divisors.{table_tests}
 use Rattle.guarded_quantizer.specs.Guarded.{guarded}
 use Rattle.guarded_quantizer.specs.Constant.{constant, only_dc}
 use Rattle.guarded_quantizer.specs.Record.{record_of}
 use Rattle.guarded_quantizer.specs.declared.QuantizedBlock.{QuantizedBlock}
-use Rattle.guarded_quantizer.specs.declared.Quantized.{Quantized}
 
 -- the coefficients by their natural index
 unfoldable pub coefficients_of : List ℕ → List ℕ → List Float → ℕ → ℤ
@@ -18,13 +18,9 @@ coefficients_of block quant reciprocals = cond (constant block) (only_dc block q
 abbrev pub guarded_tests : List ℕ → List ℕ → List Test
 guarded_tests block quant = 1 unless block of 64 ∷ table_tests quant
 
-abbrev pub quantized : ℕ → QuantizedBlock → Quantized
-quantized s r = record { status = s; block = r }
-
 unfoldable pub zero_record : QuantizedBlock
 zero_record = record { dc = pos 0; ac_coefficients = tab 64 (λ _. pos 0); nonzero_ac = 0; divisors = tab 64 (λ _. 0) }
 
-unfoldable pub guarded_answer : List ℕ → List ℕ → List Float → Quantized
+unfoldable pub guarded_answer : List ℕ → List ℕ → List Float → Answer QuantizedBlock
 guarded_answer block quant reciprocals =
-    let s = status (guarded_tests block quant) in
-    quantized s (written s (record_of quant (coefficients_of block quant reciprocals)) zero_record)
+    answer (guarded_tests block quant) (record_of quant (coefficients_of block quant reciprocals)) zero_record

@@ -4,9 +4,10 @@ use Rattle.std.specs.Prelude.{Float}
 use Rattle.std.specs.Float.{nan, binary64}
 use Rattle.std.specs.Float.Ieee.{mul, div, of_int}
 use Rattle.lists.specs.Tab.{tab}
-use Rattle.refusals.specs.Refusals.{Test, ◌unless◌, ◌of◌, status, written}
+use Rattle.refusals.specs.Refusals.{Test, ◌unless◌, ◌of◌}
+use Rattle.refusals.specs.Numbers.{Answer, answer}
 use Rattle.guarded_quantizer.specs.Literals.{decimal}
-use Rattle.guarded_quantizer.specs.declared.MadeDivisors.{MadeDivisors}
+use Rattle.guarded_quantizer.specs.declared.QuantizationDivisors.{QuantizationDivisors}
 
 -- `AAN_SCALE`
 unfoldable pub aan_scale : List Float
@@ -41,13 +42,11 @@ has_zero (q ∷ quant) = q == 0 || has_zero quant
 abbrev pub table_tests : List ℕ → List Test
 table_tests quant = 2 unless quant of 64 ∷ 5 unless not (has_zero quant) ∷ []
 
-abbrev pub made_divisors : ℕ → List Float → MadeDivisors
-made_divisors s l = record { status = s; divisors = record { reciprocals = l } }
+abbrev pub made_divisors : List Float → QuantizationDivisors
+made_divisors l = record { reciprocals = l }
 
 unfoldable pub zero_divisors : List Float
 zero_divisors = tab 64 (λ _. decimal 0 0)
 
-unfoldable pub divisors_answer : List ℕ → MadeDivisors
-divisors_answer quant =
-    let s = status (table_tests quant) in
-    made_divisors s (written s (reciprocals quant) zero_divisors)
+unfoldable pub divisors_answer : List ℕ → Answer QuantizationDivisors
+divisors_answer quant = answer (table_tests quant) (made_divisors (reciprocals quant)) (made_divisors zero_divisors)

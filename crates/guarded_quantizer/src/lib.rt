@@ -5,20 +5,14 @@
 #![tactic(auto)]
 
 // What the guarded quantizer multiplies by instead of dividing.
-#[derive(Clone, Copy)]
+#[derive(Clone, Copy, Debug)]
 pub struct QuantizationDivisors {
     pub reciprocals: [f64; 64],
 }
 
-// What `quantization_divisors` answers: status 0 and the divisors, or a refusal's number and 64 zeros.
-#[derive(Clone, Copy)]
-pub struct MadeDivisors {
-    pub status: u32,
-    pub divisors: QuantizationDivisors,
-}
-
 // The record of a quantized block (transform.rs, `QuantizedBlock`, which has no divisors; those by document 02, card 9).
-#[derive(Clone, Copy)]
+// It has no `==`: which records are the same, `transform::same::same_records` says.
+#[derive(Clone, Copy, Debug)]
 pub struct QuantizedBlock {
     pub dc: i16,
     // In zigzag order; place 0 is 0.
@@ -27,11 +21,4 @@ pub struct QuantizedBlock {
     pub nonzero_ac: u64,
     // The quantizer table handed over, in natural order, whatever reciprocals were used.
     pub divisors: [u8; 64],
-}
-
-// What `fdct_quantize` answers: status 0 and the record, or a refusal's number and zeros.
-#[derive(Clone, Copy)]
-pub struct Quantized {
-    pub status: u32,
-    pub block: QuantizedBlock,
 }

@@ -36,7 +36,7 @@ Small l = (i : ℕ) → get_or l i 0 ≤ 255
 -- ---- one record
 module _ (a quant : List ℕ) (samples : Small a) (quantizers : Small quant) (e : (guarded_answer a quant (reciprocals quant)).status ≡ 0) where
   abbrev r : QuantizedBlock
-  r = (guarded_answer a quant (reciprocals quant)).block
+  r = (guarded_answer a quant (reciprocals quant)).value
 
   none-failed : status (guarded_tests a quant) ≡ 0
   unfolding guarded_answer
@@ -69,7 +69,7 @@ module _ (a quant : List ℕ) (samples : Small a) (quantizers : Small quant) (e 
 -- ---- two records that are the same
 module _ (a quant b quant' : List ℕ) (samples : Small a) (quantizers : Small quant) (samples' : Small b) (quantizers' : Small quant')
     (e : (guarded_answer a quant (reciprocals quant)).status ≡ 0) (e' : (guarded_answer b quant' (reciprocals quant')).status ≡ 0)
-    (same : T (same_records (guarded_answer a quant (reciprocals quant)).block (guarded_answer b quant' (reciprocals quant')).block)) where
+    (same : T (same_records (guarded_answer a quant (reciprocals quant)).value (guarded_answer b quant' (reciprocals quant')).value)) where
   one_table : quant ≡ quant'
   one_table = same_tables a quant (reciprocals quant) b quant' (reciprocals quant') e e' same
 

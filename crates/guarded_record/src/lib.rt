@@ -6,16 +6,20 @@
 #![tactic(auto)]
 
 ghost use Rattle.std.specs.Prelude.{◌≡◌};
+ghost use Rattle.refusals.specs.Numbers.{told};
+ghost use Rattle.guarded_quantizer.specs.Answer.{zero_record};
 ghost use Rattle.agreement.specs.Agreement.{canonical_answer};
 
 use fdct_f64::quantization_divisors;
-use guarded_quantizer::Quantized;
+use guarded_quantizer::QuantizedBlock;
+use refusals::Refusal;
 use transform::fdct_quantize;
 
-// Refusals 1, 2 and 5. Of a table that is refused the divisors are zeros, and the entry refuses it too.
-pub fn fdct_quantize_record(block: &[u8], quant: &[u8]) -> Quantized
-    ensures { result ≡ canonical_answer block.now quant.now }
+// Refusals 1, 2 and 5: the block is tested before the divisors are made, and the entry tests it again.
+pub fn fdct_quantize_record(block: &[u8], quant: &[u8]) -> Result<QuantizedBlock, Refusal>
+    ensures { told zero_record result ≡ canonical_answer block.now quant.now }
 {
-    let made = quantization_divisors(quant);
-    fdct_quantize(block, quant, made.divisors)
+    Refusal::Block.unless(block.len() == 64)?;
+    let divisors = quantization_divisors(quant)?;
+    fdct_quantize(block, quant, divisors)
 }

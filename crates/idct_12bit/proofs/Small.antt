@@ -29,7 +29,7 @@ use Rattle.clamping.specs.Clamping.{clamp_to}
 use Rattle.clamping.proofs.Clamp.{clamp-le, clamp-none, not-below, not-above}
 use Rattle.passes.specs.Passes.{pass}
 use Rattle.block.specs.Bound.{AtMost}
-use Rattle.block.specs.Block.{row_of}
+use Rattle.block.specs.Block.{row_of, row_at}
 use Rattle.block.proofs.Exact.{exact_pass, light, pass-exact, exact-le, tab-at-most}
 
 -- the low 32 bits of a 64-bit number
@@ -85,7 +85,7 @@ zeros-small n = every-at (every-same (λ (z : ℤ). nat_abs z ≤ 2 ^ 32) n (pos
 -- a row of numbers of 33 bits
 module _ (rows : List (List ℤ)) (s : ℕ) (t : T (light (2 ^ 63) (2 ^ 32) s rows)) (l : T (light ((2 ^ 31 - 2 ^ 12) * 2 ^ s) (2 ^ 32) s rows)) where
   row_small : (cols : List (List ℤ)) (y : ℕ) → Every (AtMost (2 ^ 32)) cols → AtMost (2 ^ 31 - 2 ^ 12) (pass w64 rows s (row_of cols y))
-  unfolding row_of
+  unfolding row_at
   row_small cols y h =
       let p = row_of cols y in
       let few = tab-at-most (2 ^ 32) 8 _ (λ u b. every-at h [] (λ k. zero-le) u y) in

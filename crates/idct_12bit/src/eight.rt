@@ -8,14 +8,14 @@ ghost use Rattle.passes.specs.Passes.{pass};
 ghost use Rattle.block.specs.Block.{row_samples};
 
 use crate::passes_12bit::{PASS2_SHIFT_12, descale_each, widen_8};
-use block_access::{load_row, put_row_12bit};
-use islow_i64::islow_1d_i64;
+use block_access::{load_row, put_row};
+use islow::islow_1d;
 
 fn pass_8(p: [i64; 8], shift: u32) -> [i64; 8]
     requires { (1 ≤ shift) × (shift ≤ 63) }
     ensures { result ≡ pass w64 gains shift p }
 {
-    let mut q = islow_1d_i64(p);
+    let mut q = islow_1d(p);
     descale_each(&mut q, shift);
     q
 }
@@ -24,10 +24,8 @@ pub fn rows_8(w: &[[i32; 8]; 8], output: &mut [u16])
     requires { length output.old ≡ 64 }
     ensures { output.new ≡ row_samples (pass w64 gains 17) sample12bit 8 w.now }
 {
-    let mut y = 0;
-    while y < 8 {
+    for y in 0..8 {
         let q = pass_8(widen_8(load_row(w, y)), PASS2_SHIFT_12);
-        put_row_12bit(output, y * 8, &q);
-        y += 1;
+        put_row(output, y * 8, &q);
     }
 }

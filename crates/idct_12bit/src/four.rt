@@ -16,10 +16,10 @@ ghost use Rattle.block.specs.Block.{columns, row_of, row_samples};
 use crate::passes_12bit::{
     PASS1_SHIFT_12_4X4, PASS2_SHIFT_12_4X4, add_each, descale_each, widen_8,
 };
-use block_access::{load_column_4, load_row_4, put_row_12bit};
+use block_access::{load_column_4, load_row, put_row};
 use idct_reduced::pass_4;
-use islow_i64::reduced::islow_1d_4_i64;
-use wrapping::wrapping_add_i32;
+use islow::reduced::islow_1d_4;
+use wrapping::Wrapping;
 
 // A column of 16-bit numbers, at 32 bits. 16384·p0 is a multiple of 2^13: scaled down it is 2·p0, exactly, and what the other entries
 // make fits 32 bits.
@@ -30,19 +30,16 @@ fn column_4(p: [i32; 8]) -> [i32; 4]
     let mut rest = p;
     rest[0] = 0;
     let mut q = pass_4(rest, PASS1_SHIFT_12_4X4);
-    add_each(&mut q, wrapping_add_i32(p[0], p[0]));
+    add_each(&mut q, p[0].add(p[0]));
     q
 }
 
-pub fn columns_4(input: &[i16]) -> [[i32; 4]; 8]
-    requires { length input.now ≡ 64 }
+pub fn columns_4(input: &[i16; 64]) -> [[i32; 4]; 8]
     ensures { result ≡ columns (pass w64 gains4 13) input.now }
 {
     let mut w = [[0i32; 4]; 8];
-    let mut u = 0;
-    while u < 8 {
+    for u in 0..8 {
         w[u] = column_4(load_column_4(input, u));
-        u += 1;
     }
     w
 }
@@ -50,7 +47,7 @@ pub fn columns_4(input: &[i16]) -> [[i32; 4]; 8]
 fn row_4(p: [i64; 8]) -> [i64; 4]
     ensures { result ≡ pass w64 gains4 18 p }
 {
-    let mut q = islow_1d_4_i64(p);
+    let mut q = islow_1d_4(p);
     descale_each(&mut q, PASS2_SHIFT_12_4X4);
     q
 }
@@ -60,10 +57,8 @@ fn pass_rows_4(w: &[[i32; 4]; 8]) -> [[i64; 4]; 4]
     ensures { result ≡ tab 4 (λ y. pass w64 gains4 18 (row_of w.now y)) }
 {
     let mut r = [[0i64; 4]; 4];
-    let mut y = 0;
-    while y < 4 {
-        r[y] = row_4(widen_8(load_row_4(w, y)));
-        y += 1;
+    for y in 0..4 {
+        r[y] = row_4(widen_8(load_row(w, y)));
     }
     r
 }
@@ -73,9 +68,7 @@ pub fn rows_4(w: &[[i32; 4]; 8], output: &mut [u16])
     ensures { output.new ≡ row_samples (pass w64 gains4 18) sample12bit 4 w.now }
 {
     let r = pass_rows_4(w);
-    let mut y = 0;
-    while y < 4 {
-        put_row_12bit(output, y * 4, &r[y]);
-        y += 1;
+    for y in 0..4 {
+        put_row(output, y * 4, &r[y]);
     }
 }

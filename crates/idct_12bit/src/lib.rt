@@ -22,55 +22,47 @@ ghost use Rattle.std.specs.Prelude.{◌≡◌};
 ghost use Rattle.passes.specs.Passes.{eight, four, two};
 ghost use Rattle.block.specs.Block.{block12bit, inverse_tests};
 ghost use Rattle.refusals.specs.Refusals.{status, written};
+ghost use Rattle.refusals.specs.Numbers.{status_of};
 
 use crate::eight::rows_8;
+use crate::four::{columns_4, rows_4};
 use crate::passes_12bit::PASS1_SHIFT_12;
+use crate::two::{columns_2, rows_2};
 use idct_8x8::islow_columns;
+use refusals::Refusal;
 
 // The 8×8 block.
-pub fn islow_block_12bit(input: &[i16], output: &mut [u16]) -> u32
-    ensures value { result ≡ status (inverse_tests 64 input.now output.old) }
-    ensures output_after { output.new ≡ written result (block12bit eight input.now) output.old }
+#[tactic(auto, unfolding(refusals::specs::Refusals::status, refusals::specs::Refusals::written))]
+pub fn islow_block_12bit(input: &[i16], output: &mut [u16]) -> Result<(), Refusal>
+    ensures value { status_of result ≡ status (inverse_tests 64 input.now output.old) }
+    ensures output_after { output.new ≡ written (status_of result) (block12bit eight input.now) output.old }
 {
-    if input.len() != 64 {
-        return 1;
-    }
-    if output.len() != 64 {
-        return 3;
-    }
-    let w = islow_columns(input, PASS1_SHIFT_12);
-    rows_8(&w, output);
-    0
+    let input = input.as_array().ok_or(Refusal::Block)?;
+    Refusal::Output.unless(output.len() == 64)?;
+    rows_8(&islow_columns::<8>(input, PASS1_SHIFT_12), output);
+    Ok(())
 }
 
 // The 4×4 block.
-pub fn islow_block_12bit_4x4(input: &[i16], output: &mut [u16]) -> u32
-    ensures value { result ≡ status (inverse_tests 16 input.now output.old) }
-    ensures output_after { output.new ≡ written result (block12bit four input.now) output.old }
+#[tactic(auto, unfolding(refusals::specs::Refusals::status, refusals::specs::Refusals::written))]
+pub fn islow_block_12bit_4x4(input: &[i16], output: &mut [u16]) -> Result<(), Refusal>
+    ensures value { status_of result ≡ status (inverse_tests 16 input.now output.old) }
+    ensures output_after { output.new ≡ written (status_of result) (block12bit four input.now) output.old }
 {
-    if input.len() != 64 {
-        return 1;
-    }
-    if output.len() != 16 {
-        return 3;
-    }
-    let w = crate::four::columns_4(input);
-    crate::four::rows_4(&w, output);
-    0
+    let input = input.as_array().ok_or(Refusal::Block)?;
+    Refusal::Output.unless(output.len() == 16)?;
+    rows_4(&columns_4(input), output);
+    Ok(())
 }
 
 // The 2×2 block.
-pub fn islow_block_12bit_2x2(input: &[i16], output: &mut [u16]) -> u32
-    ensures value { result ≡ status (inverse_tests 4 input.now output.old) }
-    ensures output_after { output.new ≡ written result (block12bit two input.now) output.old }
+#[tactic(auto, unfolding(refusals::specs::Refusals::status, refusals::specs::Refusals::written))]
+pub fn islow_block_12bit_2x2(input: &[i16], output: &mut [u16]) -> Result<(), Refusal>
+    ensures value { status_of result ≡ status (inverse_tests 4 input.now output.old) }
+    ensures output_after { output.new ≡ written (status_of result) (block12bit two input.now) output.old }
 {
-    if input.len() != 64 {
-        return 1;
-    }
-    if output.len() != 4 {
-        return 3;
-    }
-    let w = crate::two::columns_2(input);
-    crate::two::rows_2(&w, output);
-    0
+    let input = input.as_array().ok_or(Refusal::Block)?;
+    Refusal::Output.unless(output.len() == 4)?;
+    rows_2(&columns_2(input), output);
+    Ok(())
 }

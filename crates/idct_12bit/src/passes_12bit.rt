@@ -6,8 +6,8 @@ ghost use Rattle.integers.specs.Wrap.{wrap};
 ghost use Rattle.scaling.specs.Scaling.{descaled};
 
 use gains::CONST_BITS;
-use scaling::descale_i64;
-use wrapping::wrapping_add_i32;
+use scaling::descale_by;
+use wrapping::Wrapping;
 
 // Fraction bits that the column pass keeps.
 const PASS1_BITS_12: usize = 1;
@@ -26,20 +26,12 @@ pub const PASS2_SHIFT_12_4X4: u32 = PASS2_SHIFT_12 + 1;
 
 pub const PASS2_SHIFT_12_2X2: u32 = PASS2_SHIFT_12 + 2;
 
-fn widen(x: i32) -> i64
-    ensures { result ≡ x }
-{
-    x as i64
-}
-
 pub fn widen_8(p: [i32; 8]) -> [i64; 8]
     ensures { result ≡ p }
 {
     let mut out = [0i64; 8];
-    let mut i = 0;
-    while i < 8 {
-        out[i] = widen(p[i]);
-        i += 1;
+    for i in 0..8 {
+        out[i] = i64::from(p[i]);
     }
     out
 }
@@ -49,10 +41,8 @@ pub fn descale_each(values: &mut [i64], shift: u32)
     requires { (1 ≤ shift) × (shift ≤ 63) }
     ensures { values.new ≡ map (λ v. descaled w64 v shift) values.old }
 {
-    let mut i = 0;
-    while i < values.len() {
-        values[i] = descale_i64(values[i], shift);
-        i += 1;
+    for i in 0..values.len() {
+        values[i] = descale_by(values[i], shift);
     }
 }
 
@@ -60,9 +50,7 @@ pub fn descale_each(values: &mut [i64], shift: u32)
 pub fn add_each(values: &mut [i32], x: i32)
     ensures { values.new ≡ map (λ v. wrap w32 (v +ℤ x)) values.old }
 {
-    let mut i = 0;
-    while i < values.len() {
-        values[i] = wrapping_add_i32(values[i], x);
-        i += 1;
+    for i in 0..values.len() {
+        values[i] = values[i].add(x);
     }
 }

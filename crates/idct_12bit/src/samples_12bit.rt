@@ -9,14 +9,13 @@ ghost use Rattle.integers.specs.Wrap.{wrap};
 ghost use Rattle.clamping.specs.Clamping.{sample12bit};
 ghost use Rattle.block.specs.Bound.{AtMost};
 
-use wrapping::bits::{from_bits_u32, to_bits_i64};
-use wrapping::wrapping_add_i32;
+use wrapping::Wrapping;
 
 // The low 32 bits of x. No cast that asks whether x fits: the compiler would take the number back to 64 bits.
 fn low_32(x: i64) -> i32
     ensures { result ≡ wrap w32 x }
 {
-    from_bits_u32((to_bits_i64(x) % 0x1_0000_0000) as u32)
+    ((x.cast_unsigned() % 0x1_0000_0000) as u32).cast_signed()
 }
 
 // `clamping::sample_12bit` of a number whose level shift fits 32 bits.
@@ -24,7 +23,7 @@ fn sample_small(value: i64) -> u16
     requires { nat_abs value ≤ 2 ^ 31 - 2 ^ 12 }
     ensures { result ≡ sample12bit value }
 {
-    let shifted = wrapping_add_i32(low_32(value), 2048);
+    let shifted = low_32(value).add(2048);
     if shifted < 0 {
         return 0;
     }
@@ -34,15 +33,13 @@ fn sample_small(value: i64) -> u16
     shifted as u16
 }
 
-// `block_access::put_row_12bit` of such numbers.
+// `block_access::put_row` of such numbers.
 pub fn put_row_small(output: &mut [u16], at: usize, q: &[i64])
     requires q_in_bounds { at + length q.now ≤ length output.old }
     requires at_most { AtMost (2 ^ 31 - 2 ^ 12) q.now }
     ensures { output.new ≡ paste output.old at (map sample12bit q.now) (length q.now) }
 {
-    let mut k = 0;
-    while k < q.len() {
+    for k in 0..q.len() {
         output[at + k] = sample_small(q[k]);
-        k += 1;
     }
 }

@@ -15,14 +15,14 @@ ghost use Rattle.block.specs.Bound.{AtMost};
 
 use crate::passes_12bit::{PASS1_SHIFT_12_2X2, PASS2_SHIFT_12_2X2, descale_each, widen_8};
 use crate::samples_12bit::put_row_small;
-use block_access::load_column_2;
-use islow_i64::reduced::islow_1d_2_i64;
+use block_access::{load_column_2, load_row};
+use islow::reduced::islow_1d_2;
 
 fn pass_2(p: [i64; 8], shift: u32) -> [i64; 2]
     requires { (1 ≤ shift) × (shift ≤ 63) }
     ensures { result ≡ pass w64 gains2 shift p }
 {
-    let mut q = islow_1d_2_i64(p);
+    let mut q = islow_1d_2(p);
     descale_each(&mut q, shift);
     q
 }
@@ -37,8 +37,7 @@ fn column_2(p: [i32; 8]) -> [i64; 2]
 }
 
 // The columns that the rows read, and zeros for the others.
-pub fn columns_2(input: &[i16]) -> [[i64; 2]; 8]
-    requires { length input.now ≡ 64 }
+pub fn columns_2(input: &[i16; 64]) -> [[i64; 2]; 8]
     ensures value { result ≡ without (replicate 2 (pos 0)) skipped2 (columns (pass w64 gains2 14) input.now) }
     ensures every { Every (AtMost (2 ^ 32)) result }
 {
@@ -54,29 +53,13 @@ pub fn columns_2(input: &[i16]) -> [[i64; 2]; 8]
     ]
 }
 
-// Row y of what is given by its columns.
-fn load_row_2(w: &[[i64; 2]; 8], y: usize) -> [i64; 8]
-    requires { y < 2 }
-    ensures { result ≡ row_of w.now y }
-{
-    let mut p = [0i64; 8];
-    let mut u = 0;
-    while u < 8 {
-        p[u] = w[u][y];
-        u += 1;
-    }
-    p
-}
-
 pub fn rows_2(w: &[[i64; 2]; 8], output: &mut [u16])
     requires output_len { length output.old ≡ 4 }
     requires every { Every (AtMost (2 ^ 32)) w.now }
     ensures { output.new ≡ row_samples (pass w64 gains2 19) sample12bit 2 w.now }
 {
-    let mut y = 0;
-    while y < 2 {
-        let q = pass_2(load_row_2(w, y), PASS2_SHIFT_12_2X2);
+    for y in 0..2 {
+        let q = pass_2(load_row(w, y), PASS2_SHIFT_12_2X2);
         put_row_small(output, y * 2, &q);
-        y += 1;
     }
 }

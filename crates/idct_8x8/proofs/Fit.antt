@@ -3,11 +3,11 @@
 -- Assumes nothing.
 use mathlib.Core.Path.{◌≡◌, ap, ◌∙◌}
 use mathlib.Core.List.{List, [], ◌∷◌, map}
-use Prim.Native.Nat.{ℕ, ◌^◌, ◌<◌}
+use Prim.Native.Nat.{ℕ, ◌^◌}
 use native.Mathlib.Omega.{arith}
 use lib.ListN.{length, get_or}
 use lib.IntN.{ℤ, pos, negsuc, ◌+ℤ◌}
-use mir.Facts.{to_z-of_z, sfits_widen}
+use mir.Facts.{to_z-of_z}
 use mir.Syntax.{w16, w32}
 use mir.Val.{SFits, to_z, of_z}
 use Rattle.integers.specs.Fits16.{Fits16}
@@ -16,12 +16,11 @@ use Rattle.integers.specs.Wrap.{wrap}
 use Rattle.integers.proofs.Fits16.{fits16-held}
 use Rattle.integers.proofs.Wrap.{wrap-fits}
 use Rattle.lists.specs.Every.{Every, every-nil, every-cons}
-use Rattle.lists.specs.Tab.{tab}
 use Rattle.lists.proofs.Tab.{get_d-tab, tab-ext}
 use Rattle.scaling.specs.Scaling.{descaled}
 use Rattle.passes.specs.Passes.{eight, row_pass}
 use Rattle.passes.proofs.Steps.{eight-rows, length-row}
-use Rattle.block.specs.Block.{row_of}
+use Rattle.block.specs.Block.{row_of, row_at, valued, column}
 
 scaled_fits : (v : ℤ) → Fits16 (descaled w32 v 18)
 unfolding descaled
@@ -49,8 +48,8 @@ module _ {z : ℤ} (f : Fits16 z) where
   pub widened : {r : ℤ} → r ≡ to_z w16 (of_z w16 z) → to_z w32 (of_z w32 r) ≡ z
   widened e = ap (λ (t : ℤ). to_z w32 (of_z w32 t)) (e ∙ to_z-of_z f) ∙ fits16-held f
 
--- a row of columns that were cut number by number
-pub row_cut : (cols : List (List ℤ)) {cut : List (List ℤ)} → cut ≡ tab 8 (λ u. tab 8 (λ k. get_or (get_or cols u []) k (pos 0))) → (y : ℕ) → y < 8 → row_of cut y ≡ row_of cols y
-unfolding row_of
-row_cut cols e y b =
-    rw e (tab-ext 8 _ _ (λ u h. ap (λ (c : List ℤ). get_or c y (pos 0)) (get_d-tab 8 (λ u. tab 8 (λ k. get_or (get_or cols u []) k (pos 0))) [] u h) ∙ get_d-tab 8 (λ k. get_or (get_or cols u []) k (pos 0)) (pos 0) y b))
+-- the columns of rows, by what their elements stand for
+pub column-row : {A : Type 0} (values : List A → List ℤ) (rows : List (List A)) (x : ℕ) → row_of (valued values rows) x ≡ column values rows x
+unfolding row_at
+column-row values rows x =
+    tab-ext 8 _ _ (λ y b. ap (λ (q : List ℤ). get_or q x (pos 0)) (get_d-tab 8 (λ y. values (get_or rows y [])) [] y b))

@@ -13,164 +13,143 @@
 #![tactic(auto)]
 
 mod column_pass;
+mod cut;
 mod row_pass;
 
-ghost use Rattle.std.specs.Prelude.{◌≡◌, ℕ, ◌≤◌, ◌<◌, length, take};
-ghost use Rattle.std.specs.Int.{w32};
+ghost use Rattle.std.specs.Prelude.{◌≡◌, ◌*◌, ◌≤◌, length, take};
 ghost use Rattle.integers.specs.Fits16.{Fits16};
 ghost use Rattle.lists.specs.Every.{Every};
-ghost use Rattle.gains.specs.Gains.{gains};
-ghost use Rattle.passes.specs.Passes.{pass, eight};
-ghost use Rattle.block.specs.Block.{column_of, columns, block, first_rows, inverse_tests};
+ghost use Rattle.passes.specs.Passes.{eight};
+ghost use Rattle.block.specs.Block.{block, first_rows, inverse_tests};
 ghost use Rattle.clamping.specs.Counts.{counted, tally_one};
-ghost use Rattle.block.specs.Clamped.{unclamped, block_raised, block_lowered, clamped_answer};
+ghost use Rattle.block.specs.Clamped.{unclamped, block_raised, block_lowered, no_counts, clamped_answer};
 ghost use Rattle.refusals.specs.Refusals.{written};
+ghost use Rattle.refusals.specs.Numbers.{status_of, told};
 
-use crate::column_pass::{
-    columns_i32, columns_top_half_as_i16, columns_top_half_i32, islow_columns_top_half,
-    shortcut_columns,
-};
-use crate::row_pass::{rows, to_i16};
+pub use crate::column_pass::islow_columns;
+use crate::column_pass::{columns_i32, narrow};
+use crate::row_pass::rows;
 use block::Clamped;
+use block_access::clamped;
 use block_access::fit_16::all_fit;
-use block_access::level::{all_zero_i16, all_zero_i32, put_level};
-use block_access::{clamped, coefficient, load_column, refused};
-use islow::direct::islow_1d_direct;
-use passes::{PASS1_SHIFT, descale_8};
+use block_access::level::{all_zero, put_level};
+use passes::PASS1_SHIFT;
+use refusals::Refusal;
 
-// The columns of a block of 16-bit numbers, each output scaled down by `shift` bits.
-pub fn islow_columns(input: &[i16], shift: u32) -> [[i32; 8]; 8]
-    requires input_len { length input.now ≡ 64 }
-    requires le_shift { (1 ≤ shift) × (shift ≤ 31) }
-    ensures value { result ≡ columns (pass w32 gains shift) input.now }
-    ensures by_index { (u : ℕ) → u < 8 → Every Fits16 (column_of input.now u) }
+// The samples of the first ROWS rows of a block of 16-bit numbers, the others counting as zero; the answer has both counts in one number
+// (`tally_one`). So they are handed on in a register: a struct goes through memory, where two counts written one by one are slow to read as
+// one. Each of these functions has at most one large array, which costs time where a function begins.
+fn write_16<const ROWS: usize>(input: &[i16; 64], output: &mut [u8]) -> u32
+    requires rows { ROWS ≤ 8 }
+    requires output_len { length output.old ≡ 64 }
+    ensures value { result ≡ counted tally_one (unclamped eight (first_rows ROWS input.now)) }
+    ensures output_after { output.new ≡ block eight (first_rows ROWS input.now) }
+{
+    rows(&islow_columns::<ROWS>(input, PASS1_SHIFT), output)
+}
+
+// The same of numbers that fit 16 bits.
+fn write_fitting<const ROWS: usize>(numbers: &[i32; 64], output: &mut [u8]) -> u32
+    requires rows { ROWS ≤ 8 }
+    requires every { Every Fits16 (take (8 * ROWS) numbers.now) }
+    requires output_len { length output.old ≡ 64 }
+    ensures value { result ≡ counted tally_one (unclamped eight (first_rows ROWS numbers.now)) }
+    ensures output_after { output.new ≡ block eight (first_rows ROWS numbers.now) }
+{
+    write_16::<ROWS>(&narrow::<ROWS>(numbers), output)
+}
+
+// The same of any 32-bit numbers.
+fn write_32<const ROWS: usize>(numbers: &[i32; 64], output: &mut [u8]) -> u32
+    requires rows { ROWS ≤ 8 }
+    requires output_len { length output.old ≡ 64 }
+    ensures value { result ≡ counted tally_one (unclamped eight (first_rows ROWS numbers.now)) }
+    ensures output_after { output.new ≡ block eight (first_rows ROWS numbers.now) }
 {
     let mut w = [[0i32; 8]; 8];
-    let mut u = 0;
-    while u < 8 {
-        w[u] = descale_8(islow_1d_direct(load_column(input, 8, u)), shift);
-        u += 1;
-    }
-    w
+    columns_i32::<ROWS>(numbers, &mut w);
+    rows(&w, output)
 }
 
-// The 8×8 block.
-pub fn islow_block(input: &[i16], output: &mut [u8]) -> Clamped
-    ensures value { result ≡ clamped_answer (inverse_tests 64 input.now output.old) (block_raised eight input.now) (block_lowered eight input.now) }
-    ensures output_after { output.new ≡ written result.status (block eight input.now) output.old }
+// A block of 16-bit numbers.
+fn write_i16_rows<const ROWS: usize>(input: &[i16; 64], output: &mut [u8]) -> u32
+    requires rows { (1 ≤ ROWS) × (ROWS ≤ 8) }
+    requires output_len { length output.old ≡ 64 }
+    ensures value { result ≡ counted tally_one (unclamped eight (first_rows ROWS input.now)) }
+    ensures output_after { output.new ≡ block eight (first_rows ROWS input.now) }
 {
-    if input.len() != 64 {
-        return refused(1); // an input block not of its 64 places
+    if all_zero(&input[1..8 * ROWS]) {
+        return put_level(output, i32::from(input[0]));
     }
-    if output.len() != 64 {
-        return refused(3); // an output of the wrong length
-    }
-    if all_zero_i16(&input[1..64]) {
-        return clamped(put_level(output, coefficient(input, 0, 0)));
-    }
-    let w = islow_columns(input, PASS1_SHIFT);
-    clamped(rows(&w, output)) // the output holds the samples
+    write_16::<ROWS>(input, output)
 }
 
-// The block whose rows 4..7 are zero, or count as zero: they are not read.
-pub fn islow_block_top_half(input: &[i16], output: &mut [u8]) -> Clamped
-    ensures value { result ≡ clamped_answer (inverse_tests 64 input.now output.old) (block_raised eight (first_rows 4 input.now)) (block_lowered eight (first_rows 4 input.now)) }
-    ensures output_after { output.new ≡ written result.status (block eight (first_rows 4 input.now)) output.old }
+// A block of 32-bit numbers.
+fn write_i32_rows<const ROWS: usize>(numbers: &[i32; 64], output: &mut [u8]) -> u32
+    requires rows { (1 ≤ ROWS) × (ROWS ≤ 8) }
+    requires output_len { length output.old ≡ 64 }
+    ensures value { result ≡ counted tally_one (unclamped eight (first_rows ROWS numbers.now)) }
+    ensures output_after { output.new ≡ block eight (first_rows ROWS numbers.now) }
 {
-    if input.len() != 64 {
-        return refused(1); // rows 4..7 too must be there, though they are not read
+    if all_zero(&numbers[1..8 * ROWS]) {
+        return put_level(output, numbers[0]);
     }
-    if output.len() != 64 {
-        return refused(3); // all 64 samples are written
+    if all_fit(&numbers[..8 * ROWS]) {
+        return write_fitting::<ROWS>(numbers, output);
     }
-    if all_zero_i16(&input[1..32]) {
-        return clamped(put_level(output, coefficient(input, 0, 0)));
-    }
-    let w = islow_columns_top_half(input);
-    clamped(rows(&w, output))
+    write_32::<ROWS>(numbers, output)
 }
 
-// The numbers of a block that fit 16 bits, cut to these.
-fn narrow(numbers: &[i32]) -> [i16; 64]
-    requires numbers_len { length numbers.now ≡ 64 }
-    requires every { Every Fits16 (take 64 numbers.now) }
-    ensures { result ≡ numbers.now }
-{
-    let mut r = [0i16; 64];
-    let mut i = 0;
-    while i < 64 {
-        r[i] = to_i16(numbers[i]);
-        i += 1;
-    }
-    r
-}
-
-// The samples of the 8×8 block of 32-bit numbers, for a plane and a search; the answer has both counts in one number (`tally_one`). So they
-// are handed on in a register: a struct goes through memory, where two counts written one by one are slow to read as one. For the same reason
-// the numbers come in an array, not in a slice, which is a struct. Those that do not fit 16 bits have each column by itself here; the entry
-// works on several columns at once, as it alone knows that the input overlaps none of them.
+// The samples of the 8×8 block of 32-bit numbers, for a plane and a search. The numbers come in an array, not in a slice, which is a struct
+// and goes through memory.
 pub fn write_i32(numbers: &[i32; 64], output: &mut [u8]) -> u32
     requires { (length numbers.now ≡ 64) × (length output.old ≡ 64) }
     ensures value { result ≡ counted tally_one (unclamped eight numbers.now) }
     ensures output_after { output.new ≡ block eight numbers.now }
 {
-    let all = &numbers[..];
-    if all_zero_i32(&all[1..64]) {
-        return put_level(output, numbers[0]);
-    }
-    if all_fit(numbers, 64) {
-        let cut = narrow(numbers);
-        let w = islow_columns(&cut, PASS1_SHIFT);
-        return rows(&w, output);
-    }
-    let mut w = [[0i32; 8]; 8];
-    shortcut_columns(numbers, 8, &mut w);
-    rows(&w, output)
+    write_i32_rows::<8>(numbers, output)
 }
 
-// The 8×8 block of 32-bit numbers.
-pub fn islow_block_i32(input: &[i32], output: &mut [u8]) -> Clamped
-    ensures value { result ≡ clamped_answer (inverse_tests 64 input.now output.old) (block_raised eight input.now) (block_lowered eight input.now) }
-    ensures output_after { output.new ≡ written result.status (block eight input.now) output.old }
+// The 8×8 block.
+#[tactic(auto, unfolding(refusals::specs::Refusals::status, refusals::specs::Refusals::written))]
+pub fn islow_block(input: &[i16], output: &mut [u8]) -> Result<Clamped, Refusal>
+    ensures value { told no_counts result ≡ clamped_answer (inverse_tests 64 input.now output.old) (block_raised eight input.now) (block_lowered eight input.now) }
+    ensures output_after { output.new ≡ written (status_of result) (block eight input.now) output.old }
 {
-    if input.len() != 64 {
-        return refused(1); // not of 64 numbers
-    }
-    if output.len() != 64 {
-        return refused(3); // not of 64 samples
-    }
-    if all_zero_i32(&input[1..64]) {
-        return clamped(put_level(output, input[0]));
-    }
-    if all_fit(input, 64) {
-        let cut = narrow(input);
-        let w = islow_columns(&cut, PASS1_SHIFT);
-        return clamped(rows(&w, output));
-    }
-    let mut w = [[0i32; 8]; 8];
-    columns_i32(input, &mut w);
-    clamped(rows(&w, output))
+    let input = input.as_array().ok_or(Refusal::Block)?; // an input block not of its 64 places
+    Refusal::Output.unless(output.len() == 64)?; // an output of the wrong length
+    Ok(clamped(write_i16_rows::<8>(input, output)))
 }
 
 // The block whose rows 4..7 are zero, or count as zero: they are not read.
-pub fn islow_block_top_half_i32(input: &[i32], output: &mut [u8]) -> Clamped
-    ensures value { result ≡ clamped_answer (inverse_tests 64 input.now output.old) (block_raised eight (first_rows 4 input.now)) (block_lowered eight (first_rows 4 input.now)) }
-    ensures output_after { output.new ≡ written result.status (block eight (first_rows 4 input.now)) output.old }
+#[tactic(auto, unfolding(refusals::specs::Refusals::status, refusals::specs::Refusals::written))]
+pub fn islow_block_top_half(input: &[i16], output: &mut [u8]) -> Result<Clamped, Refusal>
+    ensures value { told no_counts result ≡ clamped_answer (inverse_tests 64 input.now output.old) (block_raised eight (first_rows 4 input.now)) (block_lowered eight (first_rows 4 input.now)) }
+    ensures output_after { output.new ≡ written (status_of result) (block eight (first_rows 4 input.now)) output.old }
 {
-    if input.len() != 64 {
-        return refused(1); // 32 numbers are read, but all 64 must be there
-    }
-    if output.len() != 64 {
-        return refused(3); // 64 samples are written, of 32 numbers
-    }
-    if all_zero_i32(&input[1..32]) {
-        return clamped(put_level(output, input[0]));
-    }
-    if all_fit(input, 32) {
-        let w = columns_top_half_as_i16(input);
-        return clamped(rows(&w, output));
-    }
-    let mut w = [[0i32; 8]; 8];
-    columns_top_half_i32(input, &mut w);
-    clamped(rows(&w, output))
+    let input = input.as_array().ok_or(Refusal::Block)?; // rows 4..7 too must be there, though they are not read
+    Refusal::Output.unless(output.len() == 64)?; // all 64 samples are written
+    Ok(clamped(write_i16_rows::<4>(input, output)))
+}
+
+// The 8×8 block of 32-bit numbers.
+#[tactic(auto, unfolding(refusals::specs::Refusals::status, refusals::specs::Refusals::written))]
+pub fn islow_block_i32(input: &[i32], output: &mut [u8]) -> Result<Clamped, Refusal>
+    ensures value { told no_counts result ≡ clamped_answer (inverse_tests 64 input.now output.old) (block_raised eight input.now) (block_lowered eight input.now) }
+    ensures output_after { output.new ≡ written (status_of result) (block eight input.now) output.old }
+{
+    let input = input.as_array().ok_or(Refusal::Block)?; // not of 64 numbers
+    Refusal::Output.unless(output.len() == 64)?; // not of 64 samples
+    Ok(clamped(write_i32_rows::<8>(input, output)))
+}
+
+// The block whose rows 4..7 are zero, or count as zero: they are not read.
+#[tactic(auto, unfolding(refusals::specs::Refusals::status, refusals::specs::Refusals::written))]
+pub fn islow_block_top_half_i32(input: &[i32], output: &mut [u8]) -> Result<Clamped, Refusal>
+    ensures value { told no_counts result ≡ clamped_answer (inverse_tests 64 input.now output.old) (block_raised eight (first_rows 4 input.now)) (block_lowered eight (first_rows 4 input.now)) }
+    ensures output_after { output.new ≡ written (status_of result) (block eight (first_rows 4 input.now)) output.old }
+{
+    let input = input.as_array().ok_or(Refusal::Block)?; // 32 numbers are read, but all 64 must be there
+    Refusal::Output.unless(output.len() == 64)?; // 64 samples are written, of 32 numbers
+    Ok(clamped(write_i32_rows::<4>(input, output)))
 }

@@ -2,11 +2,10 @@
 -- Assumes nothing.
 use mathlib.Core.Path.{◌≡◌, refl, sym, ap, ◌∙◌}
 use mathlib.Core.List.{List, [], ◌∷◌}
-use Prim.Native.Nat.{ℕ, ◌+◌}
+use Prim.Native.Nat.{ℕ}
 use native.Mathlib.Omega.{arith}
 use lib.ListN.{length, get_or, set}
 use lib.Seq.{paste}
-use Rattle.lists.specs.Tab.{tab}
 use Rattle.lists.proofs.Tab.{none, filled, tab-get_d, tab-ext, filled-paste}
 
 module _ {A : Type 0} where

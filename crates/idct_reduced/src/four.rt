@@ -14,21 +14,18 @@ ghost use Rattle.block.specs.Block.{columns, row_samples};
 ghost use Rattle.block.specs.Clamped.{itself};
 
 use crate::pass_4;
-use block_access::{load_column_4, load_row_4, put_row};
+use block_access::{load_column_4, load_row, put_row};
 use clamping::tally::tally_i32;
 use passes::zero_shortcut::DC_SHIFT;
 use passes::{PASS1_SHIFT, PASS2_SHIFT};
-use scaling::descale_i32;
+use scaling::descale_by;
 
-pub fn columns_4(input: &[i16]) -> [[i32; 4]; 8]
-    requires { length input.now ≡ 64 }
+pub fn columns_4(input: &[i16; 64]) -> [[i32; 4]; 8]
     ensures { result ≡ columns (column_pass four) input.now }
 {
     let mut w = [[0i32; 4]; 8];
-    let mut u = 0;
-    while u < 8 {
+    for u in 0..8 {
         w[u] = pass_4(load_column_4(input, u), PASS1_SHIFT + 1);
-        u += 1;
     }
     w
 }
@@ -43,34 +40,22 @@ fn ac_is_zero_4(p: [i32; 8]) -> bool
 // The numbers of a row before the clamp, from p: with the zero shortcut. Into the caller's array, so that the compiler works on several rows
 // at once.
 fn row_4(q: &mut [i32; 4], p: [i32; 8])
-    requires { length q.old ≡ 4 }
     ensures { q.new ≡ row_pass four p }
 {
     if ac_is_zero_4(p) {
-        let value = descale_i32(p[0], DC_SHIFT);
-        q[0] = value;
-        q[1] = value;
-        q[2] = value;
-        q[3] = value;
-        return;
+        *q = [descale_by(p[0], DC_SHIFT); 4];
+    } else {
+        *q = pass_4(p, PASS2_SHIFT + 1);
     }
-    let r = pass_4(p, PASS2_SHIFT + 1);
-    q[0] = r[0];
-    q[1] = r[1];
-    q[2] = r[2];
-    q[3] = r[3];
 }
 
 // Adds what each sample of a row adds to the counts to its column's number.
 fn add_tallies(t: &mut [u32; 4], q: &[i32; 4])
-    requires t_len { (length t.old ≡ 4) × (length q.now ≡ 4) }
-    requires by_index { (x : ℕ) → get_or t.old x 0 ≤ 1024 }
+    requires { (x : ℕ) → get_or t.old x 0 ≤ 1024 }
     ensures { t.new ≡ tab 4 (λ x. get_or t.old x 0 + tally_one (rule_u8 (get_or q.now x (pos 0)))) }
 {
-    let mut x = 0;
-    while x < 4 {
+    for x in 0..4 {
         t[x] += tally_i32(q[x]);
-        x += 1;
     }
 }
 
@@ -81,13 +66,11 @@ pub fn rows_4(w: &[[i32; 4]; 8], output: &mut [u8]) -> u32
     ensures output_after { output.new ≡ row_samples (row_pass four) sample_u8 4 w.now }
 {
     let mut t = [0u32; 4];
-    let mut y = 0;
-    while y < 4 {
+    for y in 0..4 {
         let mut q = [0i32; 4];
-        row_4(&mut q, load_row_4(w, y));
+        row_4(&mut q, load_row(w, y));
         put_row(output, y * 4, &q);
         add_tallies(&mut t, &q);
-        y += 1;
     }
     t[0] + t[1] + t[2] + t[3]
 }

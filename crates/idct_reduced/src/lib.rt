@@ -22,14 +22,18 @@ ghost use Rattle.gains.specs.Gains.{gains4};
 ghost use Rattle.passes.specs.Passes.{pass, four, two};
 ghost use Rattle.block.specs.Block.{block, inverse_tests};
 ghost use Rattle.clamping.specs.Counts.{counted, tally_one};
-ghost use Rattle.block.specs.Clamped.{unclamped, block_raised, block_lowered, clamped_answer};
+ghost use Rattle.block.specs.Clamped.{unclamped, block_raised, block_lowered, no_counts, clamped_answer};
 ghost use Rattle.refusals.specs.Refusals.{written};
+ghost use Rattle.refusals.specs.Numbers.{status_of, told};
 
+use crate::four::{columns_4, rows_4};
+use crate::two::{columns_2, rows_2};
 use block::Clamped;
-use block_access::level::{all_zero_i16, put_level};
-use block_access::{clamped, coefficient, refused};
+use block_access::clamped;
+use block_access::level::{all_zero, put_level};
 use islow::reduced::islow_1d_4;
-use scaling::descale_i32;
+use refusals::Refusal;
+use scaling::descale_by;
 
 // The 4-point transform, each output scaled down.
 pub fn pass_4(p: [i32; 8], shift: u32) -> [i32; 4]
@@ -38,68 +42,77 @@ pub fn pass_4(p: [i32; 8], shift: u32) -> [i32; 4]
 {
     let v = islow_1d_4(p);
     [
-        descale_i32(v[0], shift),
-        descale_i32(v[1], shift),
-        descale_i32(v[2], shift),
-        descale_i32(v[3], shift),
+        descale_by(v[0], shift),
+        descale_by(v[1], shift),
+        descale_by(v[2], shift),
+        descale_by(v[3], shift),
     ]
+}
+
+// The samples of the 4×4 block. By itself, as a large array costs time where a function begins.
+fn write_full_4x4(input: &[i16; 64], output: &mut [u8]) -> u32
+    requires { length output.old ≡ 16 }
+    ensures value { result ≡ counted tally_one (unclamped four input.now) }
+    ensures output_after { output.new ≡ block four input.now }
+{
+    rows_4(&columns_4(input), output)
 }
 
 // The samples of the 4×4 block, for the entry and for a plane; the answer has both counts in one number (`tally_one`). So they are handed on
 // in a register: a struct goes through memory, where two counts written one by one are slow to read as one.
-pub fn write_4x4(input: &[i16], output: &mut [u8]) -> u32
+pub fn write_4x4(input: &[i16; 64], output: &mut [u8]) -> u32
     requires { (length input.now ≡ 64) × (length output.old ≡ 16) }
     ensures value { result ≡ counted tally_one (unclamped four input.now) }
     ensures output_after { output.new ≡ block four input.now }
 {
-    if all_zero_i16(&input[1..64]) { // 4×4
-        return put_level(output, coefficient(input, 0, 0));
+    if all_zero(&input[1..64]) { // 4×4
+        return put_level(output, i32::from(input[0]));
     }
-    let w = crate::four::columns_4(input);
-    crate::four::rows_4(&w, output)
+    write_full_4x4(input, output)
 }
 
 // The 4×4 block.
-pub fn islow_block_4x4(input: &[i16], output: &mut [u8]) -> Clamped
-    ensures value { result ≡ clamped_answer (inverse_tests 16 input.now output.old) (block_raised four input.now) (block_lowered four input.now) }
-    ensures output_after { output.new ≡ written result.status (block four input.now) output.old }
+#[tactic(auto, unfolding(refusals::specs::Refusals::status, refusals::specs::Refusals::written))]
+pub fn islow_block_4x4(input: &[i16], output: &mut [u8]) -> Result<Clamped, Refusal>
+    ensures value { told no_counts result ≡ clamped_answer (inverse_tests 16 input.now output.old) (block_raised four input.now) (block_lowered four input.now) }
+    ensures output_after { output.new ≡ written (status_of result) (block four input.now) output.old }
 {
-    if input.len() != 64 {
-        return refused(1);
-    }
-    if output.len() != 16 {
-        return refused(3);
-    }
-    clamped(write_4x4(input, output))
+    let input = input.as_array().ok_or(Refusal::Block)?;
+    Refusal::Output.unless(output.len() == 16)?;
+    Ok(clamped(write_4x4(input, output)))
 }
 
 // The samples of the 2×2 block.
-pub fn write_2x2(input: &[i16], output: &mut [u8]) -> u32
+pub fn write_2x2(input: &[i16; 64], output: &mut [u8]) -> u32
     requires { (length input.now ≡ 64) × (length output.old ≡ 4) }
     ensures value { result ≡ counted tally_one (unclamped two input.now) }
     ensures output_after { output.new ≡ block two input.now }
 {
-    let w = crate::two::columns_2(input);
-    crate::two::rows_2(&w, output)
+    rows_2(&columns_2(input), output)
+}
+
+// The same, cut short where DC alone is not zero. A block that has AC has nearly always one of the two numbers tested first. The test stands
+// here and not in `write_2x2`, where numbers that it loads one by one would keep the columns from being loaded eight at once.
+fn write_2x2_short(input: &[i16; 64], output: &mut [u8]) -> u32
+    requires { length output.old ≡ 4 }
+    ensures value { result ≡ counted tally_one (unclamped two input.now) }
+    ensures output_after { output.new ≡ block two input.now }
+{
+    if (input[1] | input[8]) == 0 {
+        if all_zero(&input[1..64]) { // 2×2
+            return put_level(output, i32::from(input[0]));
+        }
+    }
+    write_2x2(input, output)
 }
 
 // The 2×2 block.
-pub fn islow_block_2x2(input: &[i16], output: &mut [u8]) -> Clamped
-    ensures value { result ≡ clamped_answer (inverse_tests 4 input.now output.old) (block_raised two input.now) (block_lowered two input.now) }
-    ensures output_after { output.new ≡ written result.status (block two input.now) output.old }
+#[tactic(auto, unfolding(refusals::specs::Refusals::status, refusals::specs::Refusals::written))]
+pub fn islow_block_2x2(input: &[i16], output: &mut [u8]) -> Result<Clamped, Refusal>
+    ensures value { told no_counts result ≡ clamped_answer (inverse_tests 4 input.now output.old) (block_raised two input.now) (block_lowered two input.now) }
+    ensures output_after { output.new ≡ written (status_of result) (block two input.now) output.old }
 {
-    if input.len() != 64 {
-        return refused(1);
-    }
-    if output.len() != 4 {
-        return refused(3);
-    }
-    // A block that has AC has nearly always one of these. The test stands here and not in `write_2x2`, where numbers that it loads one by one
-    // would keep the columns from being loaded eight at once.
-    if (input[1] | input[8]) == 0 {
-        if all_zero_i16(&input[1..64]) { // 2×2
-            return clamped(put_level(output, coefficient(input, 0, 0)));
-        }
-    }
-    clamped(write_2x2(input, output))
+    let input = input.as_array().ok_or(Refusal::Block)?;
+    Refusal::Output.unless(output.len() == 4)?;
+    Ok(clamped(write_2x2_short(input, output)))
 }

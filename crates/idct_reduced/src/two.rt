@@ -18,14 +18,14 @@ ghost use Rattle.passes.specs.Passes.{two, pass, column_pass, row_pass};
 ghost use Rattle.block.specs.Block.{row_of, columns, row_samples};
 ghost use Rattle.block.specs.Clamped.{itself};
 
-use block_access::fit_16::all_fit;
-use block_access::{load_column_2, put_row};
+use block_access::fit_16::columns_fit;
+use block_access::{load_column_2, load_row, put_row};
 use clamping::tally::tally_i32;
 use islow::reduced::islow_1d_2;
 use passes::zero_shortcut::DC_SHIFT;
 use passes::{PASS1_SHIFT, PASS2_SHIFT};
-use scaling::descale_i32;
-use wrapping::wrapping_add_i32;
+use scaling::descale_by;
+use wrapping::Wrapping;
 
 // Whether the entries besides p[0] that the 2-point transform reads are zero.
 fn ac_is_zero_2(p: [i32; 8]) -> bool
@@ -40,48 +40,17 @@ fn pass_2(p: [i32; 8], shift: u32) -> [i32; 2]
     ensures { result ≡ pass w32 gains2 shift p }
 {
     let v = islow_1d_2(p);
-    [descale_i32(v[0], shift), descale_i32(v[1], shift)]
+    [descale_by(v[0], shift), descale_by(v[1], shift)]
 }
 
-pub fn columns_2(input: &[i16]) -> [[i32; 2]; 8]
-    requires { length input.now ≡ 64 }
+pub fn columns_2(input: &[i16; 64]) -> [[i32; 2]; 8]
     ensures { result ≡ columns (column_pass two) input.now }
 {
     let mut w = [[0i32; 2]; 8];
-    let mut u = 0;
-    while u < 8 {
+    for u in 0..8 {
         w[u] = pass_2(load_column_2(input, u), PASS1_SHIFT + 2);
-        u += 1;
     }
     w
-}
-
-// Whether every number of every column fits 16 bits.
-fn columns_fit(w: &[[i32; 2]; 8]) -> bool
-    requires { length w.now ≡ 8 }
-    ensures { result ≡ every (every fits16) w.now }
-{
-    let mut all = true;
-    let mut column = 0;
-    while column < 8 {
-        all = all_fit(&w[column], 2) & all;
-        column += 1;
-    }
-    all
-}
-
-// Row y of what is given by its columns.
-fn load_row_2(w: &[[i32; 2]; 8], y: usize) -> [i32; 8]
-    requires { y < 2 }
-    ensures { result ≡ row_of w.now y }
-{
-    let mut p = [0i32; 8];
-    let mut u = 0;
-    while u < 8 {
-        p[u] = w[u][y];
-        u += 1;
-    }
-    p
 }
 
 // A row of columns that fit 16 bits, before the clamp.
@@ -90,7 +59,7 @@ fn full_row_2(w: &[[i32; 2]; 8], y: usize) -> [i32; 2]
     requires every { Every (Every Fits16) w.now }
     ensures { result ≡ row_pass two (row_of w.now y) }
 {
-    pass_2(load_row_2(w, y), PASS2_SHIFT + 2)
+    pass_2(load_row(w, y), PASS2_SHIFT + 2)
 }
 
 // A row before the clamp, with the zero shortcut.
@@ -98,7 +67,7 @@ fn row_2(p: [i32; 8]) -> [i32; 2]
     ensures { result ≡ row_pass two p }
 {
     if ac_is_zero_2(p) {
-        return [descale_i32(p[0], DC_SHIFT); 2];
+        return [descale_by(p[0], DC_SHIFT); 2];
     }
     pass_2(p, PASS2_SHIFT + 2)
 }
@@ -124,10 +93,10 @@ fn put_2(output: &mut [u8], q: [i32; 4]) -> u32
     ensures value { result ≡ counted tally_one q }
     ensures output_after { output.new ≡ map sample_u8 q }
 {
-    let a = wrapping_add_i32(q[0], 128);
-    let b = wrapping_add_i32(q[1], 128);
-    let c = wrapping_add_i32(q[2], 128);
-    let d = wrapping_add_i32(q[3], 128);
+    let a = q[0].add(128);
+    let b = q[1].add(128);
+    let c = q[2].add(128);
+    let d = q[3].add(128);
     if is_sample(a | (b | (c | d))) {
         output[0] = a as u8;
         output[1] = b as u8;
@@ -141,7 +110,7 @@ fn put_2(output: &mut [u8], q: [i32; 4]) -> u32
 
 // The samples of what is given by its columns, and both counts.
 pub fn rows_2(w: &[[i32; 2]; 8], output: &mut [u8]) -> u32
-    requires { (length w.now ≡ 8) × (length output.old ≡ 4) }
+    requires { length output.old ≡ 4 }
     ensures value { result ≡ counted tally_one (row_samples (row_pass two) itself 2 w.now) }
     ensures output_after { output.new ≡ row_samples (row_pass two) sample_u8 2 w.now }
 {
@@ -150,7 +119,7 @@ pub fn rows_2(w: &[[i32; 2]; 8], output: &mut [u8]) -> u32
         let r = full_row_2(w, 1);
         return put_2(output, [q[0], q[1], r[0], r[1]]);
     }
-    let q = row_2(load_row_2(w, 0));
-    let r = row_2(load_row_2(w, 1));
+    let q = row_2(load_row(w, 0));
+    let r = row_2(load_row(w, 1));
     put_2(output, [q[0], q[1], r[0], r[1]])
 }

@@ -1,20 +1,18 @@
 -- Linear forms: they add and are multiplied coefficient by coefficient; and a computation by wrapping operations that is linear in
--- its inputs, each value with its form. antt computes the forms, so at the end each output's form is compared by computation.
+-- its inputs, each value with its form. antt computes the forms, so at the end each output's form is compared by computation: so a
+-- butterfly's steps, in whatever order, make up its rows of gains, at any width.
 -- Assumes nothing.
-use mathlib.Core.Path.{◌≡◌, refl, sym, ap, ◌∙◌}
-use mathlib.Core.List.{List, [], ◌∷◌}
-use Prim.Native.Nat.{ℕ, zero, suc, ◌^◌, ◌<◌}
-use lib.ListN.{get_or}
+use mathlib.Core.Path.{◌≡◌, refl, sym, ap, subst, ◌∙◌}
+use mathlib.Core.List.{List, [], ◌∷◌, map}
+use Prim.Native.Nat.{ℕ, zero, suc, ◌<◌}
+use lib.ListN.{get_or, length}
 use lib.IntN.{ℤ, pos, negsuc, neg_ℤ, ◌+ℤ◌, ◌-ℤ◌, ◌*ℤ◌, +ℤ_idl, +ℤ_idr, zero-*ℤ, *ℤ-zero, *ℤ_comm, *ℤ-one, one}
-use lib.Signed.{mag}
 use mir.Syntax.{Width}
-use mir.Val.{hbits, to_z, of_z}
-use mir.ValLaws.{to_z-of_z}
+use Rattle.std.proofs.lemmas.List.{get_or-map}
 use Rattle.integers.specs.Wrap.{wrap}
 use Rattle.integers.specs.Linear.{dot}
 use Rattle.integers.proofs.Ring.{ring, negℤ-*ℤ}
-use Rattle.integers.proofs.Congruence.{equal, itself, then, plus, times}
-use Rattle.integers.proofs.Wrap.{wrap-fits, wrap-congruent, wrap-cong, wrap-id, wrap-+, wrap--, wrap-*}
+use Rattle.integers.proofs.Wrap.{wrap-twice, wrap-+, wrap--, wrap-*}
 
 infixl 6 ◌⊕◌ ◌⊖◌
 abbrev pub ◌⊕◌ : List ℤ → List ℤ → List ℤ
@@ -35,7 +33,7 @@ abbrev pub unit : ℕ → List ℤ
 unit zero = pos 1 ∷ []
 unit (suc k) = pos 0 ∷ unit k
 
-one-*ℤ : (z : ℤ) → pos 1 *ℤ z ≡ z
+pub one-*ℤ : (z : ℤ) → pos 1 *ℤ z ≡ z
 unfolding one
 one-*ℤ z = *ℤ_comm (pos 1) z ∙ *ℤ-one z
 
@@ -71,46 +69,41 @@ dot-unit zero (y ∷ x) = +ℤ_idr (pos 1 *ℤ y) ∙ one-*ℤ y
 dot-unit (suc k) [] = refl
 dot-unit (suc k) (y ∷ x) = (λ i. zero-*ℤ y i +ℤ dot-unit k x i) ∙ +ℤ_idl (get_or x k (pos 0))
 
--- x is the linear form u of xs, wrapped
+-- x is the linear form u of xs, modulo 2^w
 pub record Lin (w : Width) (xs u : List ℤ) (x : ℤ) : Type 0 where
-  pub is : x ≡ wrap w (dot u xs)
-
--- a signed local holds bits, so an operand is `to_z w (of_z w x)`: an operation as a contract of the crate `wrapping` states it
-module _ (w : Width) where
-  abbrev pub add : ℤ → ℤ → ℤ
-  add x y = wrap w (to_z w (of_z w x) +ℤ to_z w (of_z w y))
-
-  abbrev pub sub : ℤ → ℤ → ℤ
-  sub x y = wrap w (to_z w (of_z w x) -ℤ to_z w (of_z w y))
-
-  abbrev pub mul : ℤ → ℤ → ℤ
-  mul x k = wrap w (to_z w (of_z w x) *ℤ k)
-
-  -- a sum of two products
-  abbrev pub mul2 : ℤ → ℤ → ℤ → ℤ → ℤ
-  mul2 x j y k = wrap w (to_z w (of_z w x) *ℤ j +ℤ to_z w (of_z w y) *ℤ k)
+  pub is : wrap w x ≡ wrap w (dot u xs)
 
 module _ {w : Width} {xs : List ℤ} where
-  pub lin-read : {u : List ℤ} {x : ℤ} → Lin w xs u x → to_z w (of_z w x) ≡ wrap w (dot u xs)
-  lin-read {u} l = ap (λ (t : ℤ). to_z w (of_z w t)) l.is ∙ to_z-of_z w (wrap w (dot u xs)) (wrap-fits w (dot u xs))
+  pub lin-var : (k : ℕ) → Lin w xs (unit k) (get_or xs k (pos 0))
+  lin-var k = record { is = ap (wrap w) (sym (dot-unit k xs)) }
 
-  pub lin-var : (k : ℕ) → mag (get_or xs k (pos 0)) < 2 ^ hbits w → Lin w xs (unit k) (get_or xs k (pos 0))
-  lin-var k f = record { is = sym (ap (wrap w) (dot-unit k xs) ∙ wrap-id w (get_or xs k (pos 0)) (record { sfits = f })) }
+  -- a wrapped sum and a wrapped difference, as outputs: the wrapped form itself
+  pub lin-sum : {u v : List ℤ} {x y r : ℤ} → Lin w xs u x → Lin w xs v y → r ≡ wrap w (x +ℤ y) → r ≡ wrap w (dot (u ⊕ v) xs)
+  lin-sum {u} {v} {x} {y} l m e =
+      e ∙ sym (wrap-+ w x y) ∙ (λ i. wrap w (l.is i +ℤ m.is i)) ∙ wrap-+ w (dot u xs) (dot v xs) ∙ ap (wrap w) (sym (dot-⊕ u v xs))
 
-  pub lin-add : {u v : List ℤ} {x y r : ℤ} → Lin w xs u x → Lin w xs v y → r ≡ add w x y → Lin w xs (u ⊕ v) r
-  lin-add {u} {v} l m e =
-      record { is = e ∙ (λ i. wrap w (lin-read l i +ℤ lin-read m i)) ∙ wrap-+ w (dot u xs) (dot v xs) ∙ ap (wrap w) (sym (dot-⊕ u v xs)) }
+  pub lin-difference : {u v : List ℤ} {x y r : ℤ} → Lin w xs u x → Lin w xs v y → r ≡ wrap w (x -ℤ y) → r ≡ wrap w (dot (u ⊖ v) xs)
+  lin-difference {u} {v} {x} {y} l m e =
+      e ∙ sym (wrap-- w x y) ∙ (λ i. wrap w (l.is i -ℤ m.is i)) ∙ wrap-- w (dot u xs) (dot v xs) ∙ ap (wrap w) (sym (dot-⊖ u v xs))
 
-  pub lin-sub : {u v : List ℤ} {x y r : ℤ} → Lin w xs u x → Lin w xs v y → r ≡ sub w x y → Lin w xs (u ⊖ v) r
-  lin-sub {u} {v} l m e =
-      record { is = e ∙ (λ i. wrap w (lin-read l i -ℤ lin-read m i)) ∙ wrap-- w (dot u xs) (dot v xs) ∙ ap (wrap w) (sym (dot-⊖ u v xs)) }
+  -- and as operands of the steps that follow
+  wrapped : {u : List ℤ} {r : ℤ} → r ≡ wrap w (dot u xs) → Lin w xs u r
+  wrapped {u} e = record { is = ap (wrap w) e ∙ wrap-twice w (dot u xs) }
 
-  pub lin-mul : {u : List ℤ} {x r : ℤ} (k : ℤ) → Lin w xs u x → r ≡ mul w x k → Lin w xs (k ⊙ u) r
-  lin-mul {u} k l e =
-      record { is = e ∙ ap (λ (t : ℤ). wrap w (t *ℤ k)) (lin-read l) ∙ wrap-* w (dot u xs) k ∙ ap (wrap w) (*ℤ_comm (dot u xs) k ∙ sym (dot-⊙ k u xs)) }
+  pub lin-add : {u v : List ℤ} {x y r : ℤ} → Lin w xs u x → Lin w xs v y → r ≡ wrap w (x +ℤ y) → Lin w xs (u ⊕ v) r
+  lin-add l m e = wrapped (lin-sum l m e)
 
-  pub lin-mul2 : {u v : List ℤ} {x y r : ℤ} (j k : ℤ) → Lin w xs u x → Lin w xs v y → r ≡ mul2 w x j y k → Lin w xs (j ⊙ u ⊕ k ⊙ v) r
-  lin-mul2 {u} {v} j k l m e =
-      let first = then (times (wrap-congruent w (dot u xs)) (itself j)) (equal (*ℤ_comm (dot u xs) j ∙ sym (dot-⊙ j u xs))) in
-      let second = then (times (wrap-congruent w (dot v xs)) (itself k)) (equal (*ℤ_comm (dot v xs) k ∙ sym (dot-⊙ k v xs))) in
-      record { is = e ∙ (λ i. wrap w (lin-read l i *ℤ j +ℤ lin-read m i *ℤ k)) ∙ wrap-cong w (then (plus first second) (equal (sym (dot-⊕ (j ⊙ u) (k ⊙ v) xs)))) }
+  pub lin-sub : {u v : List ℤ} {x y r : ℤ} → Lin w xs u x → Lin w xs v y → r ≡ wrap w (x -ℤ y) → Lin w xs (u ⊖ v) r
+  lin-sub l m e = wrapped (lin-difference l m e)
+
+  pub lin-mul : {u : List ℤ} {x r : ℤ} (k : ℤ) → Lin w xs u x → r ≡ wrap w (x *ℤ k) → Lin w xs (k ⊙ u) r
+  lin-mul {u} {x} k l e =
+      wrapped (e ∙ sym (wrap-* w x k) ∙ ap (λ (t : ℤ). wrap w (t *ℤ k)) l.is ∙ wrap-* w (dot u xs) k ∙ ap (wrap w) (*ℤ_comm (dot u xs) k ∙ sym (dot-⊙ k u xs)))
+
+  -- a sum of two products
+  pub lin-mul2 : {u v : List ℤ} {x y r : ℤ} (j k : ℤ) → Lin w xs u x → Lin w xs v y → r ≡ wrap w (x *ℤ j +ℤ y *ℤ k) → Lin w xs (j ⊙ u ⊕ k ⊙ v) r
+  lin-mul2 {u} {v} {x} {y} j k l m e = lin-add (lin-mul j l refl) (lin-mul k m refl) (e ∙ sym (wrap-+ w (x *ℤ j) (y *ℤ k)))
+
+-- the k-th of some values that stand for numbers
+pub lin-at : {A : Type 0} {w : Width} (f : A → ℤ) (ps : List A) (k : ℕ) (d : A) → k < length ps → Lin w (map f ps) (unit k) (f (get_or ps k d))
+lin-at {w = w} f ps k d h = subst (Lin w (map f ps) (unit k)) (get_or-map f ps k d (pos 0) h) (lin-var k)

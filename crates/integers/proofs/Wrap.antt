@@ -2,7 +2,7 @@
 -- Assumes nothing.
 use mathlib.Core.Path.{◌≡◌, refl, sym, ap, ◌∙◌}
 use mathlib.Core.Bool.{Bool, true, false}
-use Prim.Native.Nat.{ℕ, suc, ◌-◌, ◌^◌, ◌<◌}
+use Prim.Native.Nat.{ℕ, suc, ◌-◌, ◌%◌, ◌^◌, ◌<◌}
 use native.Mathlib.Omega.{arith}
 use lib.Dec.{ltb}
 use lib.IntN.{ℤ, pos, negsuc, ◌+ℤ◌, ◌-ℤ◌, ◌*ℤ◌}
@@ -10,12 +10,19 @@ use lib.Pow.{pow_pos}
 use mir.Syntax.{Width}
 use mir.Val.{SFits, bits, hbits, to_z, of_z, sel}
 use mir.ValLaws.{to_z-of_z, to_z-Fits, of_z_fits, half_full}
-use Rattle.integers.specs.Wrap.{wrap}
+use Rattle.std.specs.Int.{int_wrap}
+use Rattle.integers.specs.Wrap.{modulo, wrap}
 use Rattle.integers.proofs.Difference.{dif-eq, differences}
 use Rattle.integers.proofs.Congruence.{Congruent, equal, itself, inverse, then, plus, minus, times, modulo-lt, modulo-congruent, modulo-unique, modulo-cong}
 
 complement : {m k : ℕ} → k < m → Congruent m (negsuc k) (pos (m - suc k))
 complement h = record { multiple = negsuc 0; is = simp differences (dif-eq _ _ _ _ (omega arith)) }
+
+-- what std's wrapping methods give
+pub int_wrap-is : (w : Width) (z : ℤ) → int_wrap w z ≡ wrap w z
+unfolding int_wrap wrap modulo
+int_wrap-is w (pos n) = refl
+int_wrap-is w (negsuc n) = ap (to_z w) (omega arith)
 
 module _ (w : Width) where
   abbrev pub Same : ℤ → ℤ → Type 0
@@ -60,8 +67,14 @@ module _ (w : Width) where
   pub wrap-unique : {y z : ℤ} → SFits w y → Same y z → y ≡ wrap w z
   wrap-unique {y} f c = sym (wrap-id y f) ∙ wrap-cong c
 
+  pub wrap-twice : (z : ℤ) → wrap w (wrap w z) ≡ wrap w z
+  wrap-twice z = wrap-cong (wrap-congruent z)
+
   pub wrap-+ : (a b : ℤ) → wrap w (wrap w a +ℤ wrap w b) ≡ wrap w (a +ℤ b)
   wrap-+ a b = wrap-cong (plus (wrap-congruent a) (wrap-congruent b))
+
+  pub wrap-+right : (a b : ℤ) → wrap w (a +ℤ wrap w b) ≡ wrap w (a +ℤ b)
+  wrap-+right a b = wrap-cong (plus (itself a) (wrap-congruent b))
 
   pub wrap-- : (a b : ℤ) → wrap w (wrap w a -ℤ wrap w b) ≡ wrap w (a -ℤ b)
   wrap-- a b = wrap-cong (minus (wrap-congruent a) (wrap-congruent b))

@@ -1,10 +1,9 @@
-// The 4- and the 2-point reduced 1-D ISLOW transform in wrapping i32 arithmetic (idct.rs, `islow_butterflies!` at i32; document 01, leaf 2).
+// The 4- and the 2-point reduced 1-D ISLOW transform in wrapping arithmetic (idct.rs, `islow_butterflies!`; document 01, leaf 2).
 //
-// The steps are those of libjpeg's jidctred.c; outputs are scaled by 2^(CONST_BITS + 1) for 4 points, 2^(CONST_BITS + 2) for 2. Only
-// sums, differences and products by constants appear, each wrapping modulo 2^32, so each output is a linear form of p modulo 2^32: a row
-// of gains, whatever the order of the steps (`four-point`, `two-point` of gains/proofs/Butterfly.antt).
-ghost use Rattle.std.specs.Prelude.{◌≡◌};
-ghost use Rattle.std.specs.Int.{w32};
+// The steps are those of libjpeg's jidctred.c; outputs are scaled by 2^(CONST_BITS + 1) for 4 points, 2^(CONST_BITS + 2) for 2. Each
+// output is a linear form of p modulo 2^32 or 2^64, as in the 8-point transform. At 64 bits 16-bit input, and what a column pass makes
+// of it, never wraps (`exact-four`, `Exact-two` of block/proofs/Exact.antt).
+ghost use Rattle.std.specs.Prelude.{◌≡◌, map};
 ghost use Rattle.integers.specs.Linear.{transform};
 ghost use Rattle.gains.specs.Gains.{gains4, gains2};
 
@@ -13,61 +12,45 @@ use gains::{
     FIX_0_850430095, FIX_0_899976223, FIX_1_061594337, FIX_1_272758580, FIX_1_451774981,
     FIX_1_847759065, FIX_2, FIX_2_172734803, FIX_2_562915447, FIX_3_624509785, FIX_4,
 };
-use wrapping::{wrapping_add_i32 as add, wrapping_mul_i32 as mul, wrapping_sub_i32 as sub};
+use wrapping::Wrapping;
 
 // The 4-point reduced transform (jpeg_idct_4x4 in jidctred.c). It does not read p[4].
-pub fn islow_1d_4(p: [i32; 8]) -> [i32; 4]
-    ensures { result ≡ transform w32 gains4 p }
+pub fn islow_1d_4<T: Wrapping>(p: [T; 8]) -> [T; 4]
+    ensures { map T.value result ≡ transform T.width gains4 (map T.value p) }
 {
-    let p0 = p[0];
-    let p1 = p[1];
-    let p2 = p[2];
-    let p3 = p[3];
-    let p5 = p[5];
-    let p6 = p[6];
-    let p7 = p[7];
-    let tmp0 = mul(p0, FIX_2);
-    let tmp2 = add(mul(p2, FIX_1_847759065), mul(p6, -FIX_0_765366865));
-    let tmp10 = add(tmp0, tmp2);
-    let tmp12 = sub(tmp0, tmp2);
-    let tmp0 = add(
-        add(
-            add(mul(p7, -FIX_0_211164243), mul(p5, FIX_1_451774981)),
-            mul(p3, -FIX_2_172734803),
-        ),
-        mul(p1, FIX_1_061594337),
-    );
-    let tmp2 = add(
-        add(
-            add(mul(p7, -FIX_0_509795579), mul(p5, -FIX_0_601344887)),
-            mul(p3, FIX_0_899976223),
-        ),
-        mul(p1, FIX_2_562915447),
-    );
+    let [p0, p1, p2, p3, _, p5, p6, p7] = p;
+    let tmp0 = p0.times(FIX_2);
+    let tmp2 = p2.times(FIX_1_847759065).add(p6.times(-FIX_0_765366865));
+    let tmp10 = tmp0.add(tmp2);
+    let tmp12 = tmp0.sub(tmp2);
+    let tmp0 = p7
+        .times(-FIX_0_211164243)
+        .add(p5.times(FIX_1_451774981))
+        .add(p3.times(-FIX_2_172734803))
+        .add(p1.times(FIX_1_061594337));
+    let tmp2 = p7
+        .times(-FIX_0_509795579)
+        .add(p5.times(-FIX_0_601344887))
+        .add(p3.times(FIX_0_899976223))
+        .add(p1.times(FIX_2_562915447));
     [
-        add(tmp10, tmp2),
-        add(tmp12, tmp0),
-        sub(tmp12, tmp0),
-        sub(tmp10, tmp2),
+        tmp10.add(tmp2),
+        tmp12.add(tmp0),
+        tmp12.sub(tmp0),
+        tmp10.sub(tmp2),
     ]
 }
 
 // The 2-point reduced transform (jpeg_idct_2x2 in jidctred.c). It does not read p[2], p[4] and p[6].
-pub fn islow_1d_2(p: [i32; 8]) -> [i32; 2]
-    ensures { result ≡ transform w32 gains2 p }
+pub fn islow_1d_2<T: Wrapping>(p: [T; 8]) -> [T; 2]
+    ensures { map T.value result ≡ transform T.width gains2 (map T.value p) }
 {
-    let p0 = p[0];
-    let p1 = p[1];
-    let p3 = p[3];
-    let p5 = p[5];
-    let p7 = p[7];
-    let tmp10 = mul(p0, FIX_4);
-    let tmp0 = add(
-        add(
-            add(mul(p7, -FIX_0_720959822), mul(p5, FIX_0_850430095)),
-            mul(p3, -FIX_1_272758580),
-        ),
-        mul(p1, FIX_3_624509785),
-    );
-    [add(tmp10, tmp0), sub(tmp10, tmp0)]
+    let [p0, p1, _, p3, _, p5, _, p7] = p;
+    let tmp10 = p0.times(FIX_4);
+    let tmp0 = p7
+        .times(-FIX_0_720959822)
+        .add(p5.times(FIX_0_850430095))
+        .add(p3.times(-FIX_1_272758580))
+        .add(p1.times(FIX_3_624509785));
+    [tmp10.add(tmp0), tmp10.sub(tmp0)]
 }

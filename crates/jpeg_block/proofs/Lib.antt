@@ -1,4 +1,3 @@
 pub mod Places
 pub mod Handed
 pub mod Counted
-pub mod Searched

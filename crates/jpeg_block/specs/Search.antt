@@ -1,8 +1,7 @@
 -- Fewest coefficients within an error, for C (crate fewest): what was found is three numbers in a lent place.
 use Rattle.std.specs.Prelude.{List, [], ◌∷◌, ◌++◌, ℕ}
 use Rattle.refusals.specs.Refusals.{Test, ◌unless◌, ◌of◌}
-use Rattle.fewest.specs.Fewest.{percent_of, search_tests}
-use Rattle.fewest.specs.declared.Fewest.{Fewest}
+use Rattle.fewest.specs.Fewest.{Fewest, percent_of, search_tests}
 
 -- the percent, or 0 for "none tried is good"; how far off it is at most; the number of trials
 unfoldable pub fewest_numbers : Fewest → List ℕ

@@ -3,6 +3,7 @@ ghost use Rattle.std.specs.Prelude.{◌≡◌};
 ghost use Rattle.refusals.specs.Refusals.{status, written};
 ghost use Rattle.forward.specs.Canonical.{coefficients12bit, tests12bit};
 
+use crate::place::status;
 use fdct::twelve_bit::fdct_quantize_12bit;
 
 #[unsafe(no_mangle)]
@@ -14,5 +15,5 @@ pub extern "C" fn jpeg_block_fdct_quantize_12bit(
     ensures value { result ≡ status (tests12bit block.now quant.now out.old) }
     ensures out_after { out.new ≡ written result (coefficients12bit block.now quant.now) out.old }
 {
-    fdct_quantize_12bit(block, quant, out)
+    status(fdct_quantize_12bit(block, quant, out))
 }

@@ -1,104 +1,49 @@
 // The guarded quantizer and its divisors (crates transform and fdct_f64), with their answers in lent places.
-ghost use Rattle.std.specs.Prelude.{◌≡◌, [], ◌∷◌, ◌++◌, length, get_or, pos};
-ghost use Rattle.std.specs.Float.{nan};
-ghost use Rattle.lists.specs.Tab.{tab};
+ghost use Rattle.std.specs.Prelude.{◌≡◌, [], ◌∷◌, ◌++◌, length, eqb};
+ghost use Rattle.refusals.specs.Numbers.{status_of};
 ghost use Rattle.refusals.specs.Refusals.{◌unless◌, ◌of◌, status, written};
 ghost use Rattle.guarded_quantizer.specs.Divisors.{table_tests, divisors_answer};
 ghost use Rattle.guarded_quantizer.specs.Answer.{guarded_tests, guarded_answer};
-ghost use Rattle.jpeg_block.specs.Places.{record_tests};
+ghost use Rattle.jpeg_block.specs.Places.{record_place_tests, record_tests};
 
+use crate::place::status;
 use fdct_f64::quantization_divisors;
-use guarded_quantizer::{Quantized, QuantizedBlock};
+use guarded_quantizer::QuantizedBlock;
+use refusals::Refusal;
 use transform::{guarded_status, record_of};
 
-fn put_reciprocals(from: &[f64; 64], to: &mut [f64])
-    requires { length to.old ≡ 64 }
-    ensures { to.new ≡ tab 64 (λ n. get_or from.now n nan) }
+#[tactic(auto, unfolding(refusals::specs::Refusals::status, refusals::specs::Refusals::written))]
+fn put_all(from: &[f64; 64], to: &mut [f64]) -> Result<(), Refusal>
+    ensures value { status_of result ≡ status (3 unless to.old of 64 ∷ []) }
+    ensures to_after { to.new ≡ written (status_of result) from.now to.old }
 {
-    let mut n = 0;
-    while n < 64 {
-        to[n] = from[n];
-        n += 1;
-    }
-}
-
-// Apart from the exported function: written there, the compiler makes a longer loop of it.
-fn quantization_divisors_into(quant: &[u8], out: &mut [f64]) -> u32
-    ensures value { result ≡ status (table_tests quant.now ++ 3 unless out.old of 64 ∷ []) }
-    ensures out_after { out.new ≡ written result (divisors_answer quant.now).divisors.reciprocals out.old }
-{
-    let made = quantization_divisors(quant);
-    if made.status != 0 {
-        return made.status;
-    }
-    if out.len() != 64 {
-        return 3;
-    }
-    put_reciprocals(&made.divisors.reciprocals, out);
-    0
+    Refusal::Output.unless(to.len() == 64)?;
+    to.copy_from_slice(from);
+    Ok(())
 }
 
 // `fdct_f64::quantization_divisors`. Refusals 2 and 5, then 3 for the output.
+#[tactic(auto, unfolding(refusals::specs::Refusals::status, refusals::specs::Refusals::written))]
 #[unsafe(no_mangle)]
 pub extern "C" fn jpeg_block_quantization_divisors(quant: &[u8], out: &mut [f64]) -> u32
     ensures value { result ≡ status (table_tests quant.now ++ 3 unless out.old of 64 ∷ []) } // 2, 5, then 3
-    ensures out_after { out.new ≡ written result (divisors_answer quant.now).divisors.reciprocals out.old }
+    ensures out_after { out.new ≡ written result (divisors_answer quant.now).value.reciprocals out.old }
 {
-    quantization_divisors_into(quant, out)
-}
-
-// The status by the entry's own, and by the lengths of what only this form has.
-fn record_status(
-    number: u32,
-    reciprocals: usize,
-    dc: usize,
-    ac: usize,
-    nonzero_ac: usize,
-    divisors: usize,
-) -> u32
-    ensures { result ≡ written number (status (record_tests reciprocals dc ac nonzero_ac divisors)) number }
-{
-    if number != 0 {
-        return number;
-    }
-    if reciprocals != 64 {
-        return 2;
-    }
-    if dc != 1 {
-        return 3;
-    }
-    if ac != 64 {
-        return 3;
-    }
-    if nonzero_ac != 1 {
-        return 3;
-    }
-    if divisors != 64 {
-        return 3;
-    }
-    0
-}
-
-fn put_ac(from: &[i16; 64], to: &mut [i16])
-    requires { length to.old ≡ 64 }
-    ensures { to.new ≡ tab 64 (λ z. get_or from.now z (pos 0)) }
-{
-    let mut z = 0;
-    while z < 64 {
-        to[z] = from[z];
-        z += 1;
+    match quantization_divisors(quant) {
+        Ok(divisors) => status(put_all(&divisors.reciprocals, out)),
+        Err(refusal) => refusal.number(),
     }
 }
 
-fn put_divisors(from: &[u8; 64], to: &mut [u8])
-    requires { length to.old ≡ 64 }
-    ensures { to.new ≡ tab 64 (λ n. get_or from.now n 0) }
+// The tests of the places of a record, by the lengths.
+#[tactic(auto, unfolding(refusals::specs::Refusals::status))]
+fn record_room(dc: usize, ac: usize, nonzero_ac: usize, divisors: usize) -> Result<(), Refusal>
+    ensures { status_of result ≡ status (record_place_tests dc ac nonzero_ac divisors) }
 {
-    let mut n = 0;
-    while n < 64 {
-        to[n] = from[n];
-        n += 1;
-    }
+    Refusal::Output.unless(dc == 1)?;
+    Refusal::Output.unless(ac == 64)?;
+    Refusal::Output.unless(nonzero_ac == 1)?;
+    Refusal::Output.unless(divisors == 64)
 }
 
 // The parts of a record into lent places.
@@ -111,48 +56,48 @@ fn put_parts(
 )
     requires { (length dc.old ≡ 1) × (length ac.old ≡ 64) × (length nonzero_ac.old ≡ 1) × (length record_divisors.old ≡ 64) }
     ensures dc_after { dc.new ≡ made.dc ∷ [] }
-    ensures ac_after { ac.new ≡ tab 64 (λ z. get_or made.ac_coefficients z (pos 0)) }
+    ensures ac_after { ac.new ≡ made.ac_coefficients }
     ensures nonzero_ac_after { nonzero_ac.new ≡ made.nonzero_ac ∷ [] }
-    ensures record_divisors_after { record_divisors.new ≡ tab 64 (λ n. get_or made.divisors n 0) }
+    ensures record_divisors_after { record_divisors.new ≡ made.divisors }
 {
     dc[0] = made.dc;
-    put_ac(&made.ac_coefficients, ac);
-    put_divisors(&made.divisors, record_divisors);
+    ac.copy_from_slice(&made.ac_coefficients);
     nonzero_ac[0] = made.nonzero_ac;
+    record_divisors.copy_from_slice(&made.divisors);
 }
 
-// The parts of an answer's record into lent places, by its status and by the lengths, also that of the reciprocals handed over.
+// The same, by the lengths of the places.
+#[tactic(auto, unfolding(refusals::specs::Refusals::status, refusals::specs::Refusals::written))]
 pub fn put_record(
-    answer: Quantized,
-    reciprocals: usize,
+    made: QuantizedBlock,
     dc: &mut [i16],
     ac: &mut [i16],
     nonzero_ac: &mut [u64],
     record_divisors: &mut [u8],
-) -> u32
-    ensures value { result ≡ written answer.status (status (record_tests reciprocals (length dc.old) (length ac.old) (length nonzero_ac.old) (length record_divisors.old))) answer.status }
-    ensures dc_after { dc.new ≡ written result (answer.block.dc ∷ []) dc.old }
-    ensures ac_after { ac.new ≡ written result (tab 64 (λ z. get_or answer.block.ac_coefficients z (pos 0))) ac.old }
-    ensures nonzero_ac_after { nonzero_ac.new ≡ written result (answer.block.nonzero_ac ∷ []) nonzero_ac.old }
-    ensures record_divisors_after { record_divisors.new ≡ written result (tab 64 (λ n. get_or answer.block.divisors n 0)) record_divisors.old }
+) -> Result<(), Refusal>
+    ensures value { status_of result ≡ status (record_place_tests (length dc.old) (length ac.old) (length nonzero_ac.old) (length record_divisors.old)) }
+    ensures dc_after { dc.new ≡ written (status_of result) (made.dc ∷ []) dc.old }
+    ensures ac_after { ac.new ≡ written (status_of result) made.ac_coefficients ac.old }
+    ensures nonzero_ac_after { nonzero_ac.new ≡ written (status_of result) (made.nonzero_ac ∷ []) nonzero_ac.old }
+    ensures record_divisors_after { record_divisors.new ≡ written (status_of result) made.divisors record_divisors.old }
 {
-    let status = record_status(
-        answer.status,
-        reciprocals,
-        dc.len(),
-        ac.len(),
-        nonzero_ac.len(),
-        record_divisors.len(),
-    );
-    if status != 0 {
-        return status;
-    }
-    put_parts(answer.block, dc, ac, nonzero_ac, record_divisors);
-    0
+    record_room(dc.len(), ac.len(), nonzero_ac.len(), record_divisors.len())?;
+    put_parts(made, dc, ac, nonzero_ac, record_divisors);
+    Ok(())
+}
+
+// The entry's tests, and that of the divisors' length.
+#[tactic(auto, unfolding(refusals::specs::Refusals::status, refusals::specs::Refusals::written))]
+fn guarded_room(block: &[u8], quant: &[u8], divisors: usize) -> Result<(), Refusal>
+    ensures { status_of result ≡ status (guarded_tests block.now quant.now ++ 2 unless eqb divisors 64 ∷ []) }
+{
+    guarded_status(block, quant)?;
+    Refusal::Table.unless(divisors == 64)
 }
 
 // `transform::fdct_quantize`: refusals 1, 2 and 5, then 2 for the divisors and 3 for a place. The divisors are used as handed over,
 // whatever they hold; the record's are those of the table. They stay where they lie: by value they would be copied twice.
+#[tactic(auto, unfolding(refusals::specs::Refusals::status, refusals::specs::Refusals::written))]
 #[unsafe(no_mangle)]
 pub extern "C" fn jpeg_block_fdct_quantize_guarded(
     block: &[u8],
@@ -164,28 +109,19 @@ pub extern "C" fn jpeg_block_fdct_quantize_guarded(
     record_divisors: &mut [u8],
 ) -> u32
     ensures value { result ≡ status (guarded_tests block.now quant.now ++ record_tests (length divisors.now) (length dc.old) (length ac.old) (length nonzero_ac.old) (length record_divisors.old)) }
-    ensures dc_after { dc.new ≡ written result ((guarded_answer block.now quant.now divisors.now).block.dc ∷ []) dc.old }
-    ensures ac_after { ac.new ≡ written result (guarded_answer block.now quant.now divisors.now).block.ac_coefficients ac.old }
-    ensures nonzero_ac_after { nonzero_ac.new ≡ written result ((guarded_answer block.now quant.now divisors.now).block.nonzero_ac ∷ []) nonzero_ac.old }
-    ensures record_divisors_after { record_divisors.new ≡ written result (guarded_answer block.now quant.now divisors.now).block.divisors record_divisors.old }
+    ensures dc_after { dc.new ≡ written result ((guarded_answer block.now quant.now divisors.now).value.dc ∷ []) dc.old }
+    ensures ac_after { ac.new ≡ written result (guarded_answer block.now quant.now divisors.now).value.ac_coefficients ac.old }
+    ensures nonzero_ac_after { nonzero_ac.new ≡ written result ((guarded_answer block.now quant.now divisors.now).value.nonzero_ac ∷ []) nonzero_ac.old }
+    ensures record_divisors_after { record_divisors.new ≡ written result (guarded_answer block.now quant.now divisors.now).value.divisors record_divisors.old }
 {
-    let status = record_status(
-        guarded_status(block, quant),
-        divisors.len(),
-        dc.len(),
-        ac.len(),
-        nonzero_ac.len(),
-        record_divisors.len(),
-    );
-    if status != 0 {
-        return status;
+    match guarded_room(block, quant, divisors.len()) {
+        Ok(()) => status(put_record(
+            record_of(block, quant, divisors),
+            dc,
+            ac,
+            nonzero_ac,
+            record_divisors,
+        )),
+        Err(refusal) => refusal.number(),
     }
-    put_parts(
-        record_of(block, quant, divisors),
-        dc,
-        ac,
-        nonzero_ac,
-        record_divisors,
-    );
-    0
 }

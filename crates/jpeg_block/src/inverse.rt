@@ -6,11 +6,13 @@ ghost use Rattle.block.specs.Clamped.{block_raised, block_lowered};
 ghost use Rattle.refusals.specs.Refusals.{status, written};
 ghost use Rattle.jpeg_block.specs.Counts.{counts_tests, counts_left};
 
-use crate::counts::{block_status, put_counts};
+use crate::counts::{block_room, put_counts};
+use crate::place::status;
 use idct_8x8::{islow_block, islow_block_top_half};
 use idct_12bit::{islow_block_12bit, islow_block_12bit_2x2, islow_block_12bit_4x4};
 use idct_reduced::{islow_block_2x2, islow_block_4x4};
 
+#[tactic(auto, unfolding(refusals::specs::Refusals::status, refusals::specs::Refusals::written))]
 #[unsafe(no_mangle)]
 pub extern "C" fn jpeg_block_islow_block(
     input: &[i16],
@@ -21,15 +23,19 @@ pub extern "C" fn jpeg_block_islow_block(
     ensures output_after { output.new ≡ written result (block eight input.now) output.old }
     ensures counts_after { counts.new ≡ written result (counts_left (block_raised eight input.now) (block_lowered eight input.now) counts.old) counts.old }
 {
-    let status = block_status(input.len(), output.len(), 64, counts.len());
-    if status != 0 {
-        return status;
+    if let Err(refusal) = block_room(input.len(), output.len(), 64, counts.len()) {
+        return refusal.number();
     }
-    let answer = islow_block(input, output);
-    put_counts(answer.raised, answer.lowered, counts);
-    0
+    match islow_block(input, output) {
+        Ok(clamped) => {
+            put_counts(clamped, counts);
+            0
+        }
+        Err(refusal) => refusal.number(),
+    }
 }
 
+#[tactic(auto, unfolding(refusals::specs::Refusals::status, refusals::specs::Refusals::written))]
 #[unsafe(no_mangle)]
 pub extern "C" fn jpeg_block_islow_block_top_half(
     input: &[i16],
@@ -40,15 +46,19 @@ pub extern "C" fn jpeg_block_islow_block_top_half(
     ensures output_after { output.new ≡ written result (block eight (first_rows 4 input.now)) output.old }
     ensures counts_after { counts.new ≡ written result (counts_left (block_raised eight (first_rows 4 input.now)) (block_lowered eight (first_rows 4 input.now)) counts.old) counts.old }
 {
-    let status = block_status(input.len(), output.len(), 64, counts.len());
-    if status != 0 {
-        return status;
+    if let Err(refusal) = block_room(input.len(), output.len(), 64, counts.len()) {
+        return refusal.number();
     }
-    let answer = islow_block_top_half(input, output);
-    put_counts(answer.raised, answer.lowered, counts);
-    0
+    match islow_block_top_half(input, output) {
+        Ok(clamped) => {
+            put_counts(clamped, counts);
+            0
+        }
+        Err(refusal) => refusal.number(),
+    }
 }
 
+#[tactic(auto, unfolding(refusals::specs::Refusals::status, refusals::specs::Refusals::written))]
 #[unsafe(no_mangle)]
 pub extern "C" fn jpeg_block_islow_block_4x4(
     input: &[i16],
@@ -59,15 +69,19 @@ pub extern "C" fn jpeg_block_islow_block_4x4(
     ensures output_after { output.new ≡ written result (block four input.now) output.old }
     ensures counts_after { counts.new ≡ written result (counts_left (block_raised four input.now) (block_lowered four input.now) counts.old) counts.old }
 {
-    let status = block_status(input.len(), output.len(), 16, counts.len());
-    if status != 0 {
-        return status;
+    if let Err(refusal) = block_room(input.len(), output.len(), 16, counts.len()) {
+        return refusal.number();
     }
-    let answer = islow_block_4x4(input, output);
-    put_counts(answer.raised, answer.lowered, counts);
-    0
+    match islow_block_4x4(input, output) {
+        Ok(clamped) => {
+            put_counts(clamped, counts);
+            0
+        }
+        Err(refusal) => refusal.number(),
+    }
 }
 
+#[tactic(auto, unfolding(refusals::specs::Refusals::status, refusals::specs::Refusals::written))]
 #[unsafe(no_mangle)]
 pub extern "C" fn jpeg_block_islow_block_2x2(
     input: &[i16],
@@ -78,13 +92,16 @@ pub extern "C" fn jpeg_block_islow_block_2x2(
     ensures output_after { output.new ≡ written result (block two input.now) output.old }
     ensures counts_after { counts.new ≡ written result (counts_left (block_raised two input.now) (block_lowered two input.now) counts.old) counts.old }
 {
-    let status = block_status(input.len(), output.len(), 4, counts.len());
-    if status != 0 {
-        return status;
+    if let Err(refusal) = block_room(input.len(), output.len(), 4, counts.len()) {
+        return refusal.number();
     }
-    let answer = islow_block_2x2(input, output);
-    put_counts(answer.raised, answer.lowered, counts);
-    0
+    match islow_block_2x2(input, output) {
+        Ok(clamped) => {
+            put_counts(clamped, counts);
+            0
+        }
+        Err(refusal) => refusal.number(),
+    }
 }
 
 #[unsafe(no_mangle)]
@@ -92,7 +109,7 @@ pub extern "C" fn jpeg_block_islow_block_12bit(input: &[i16], output: &mut [u16]
     ensures value { result ≡ status (inverse_tests 64 input.now output.old) }
     ensures output_after { output.new ≡ written result (block12bit eight input.now) output.old }
 {
-    islow_block_12bit(input, output)
+    status(islow_block_12bit(input, output))
 }
 
 #[unsafe(no_mangle)]
@@ -100,7 +117,7 @@ pub extern "C" fn jpeg_block_islow_block_12bit_4x4(input: &[i16], output: &mut [
     ensures value { result ≡ status (inverse_tests 16 input.now output.old) }
     ensures output_after { output.new ≡ written result (block12bit four input.now) output.old }
 {
-    islow_block_12bit_4x4(input, output)
+    status(islow_block_12bit_4x4(input, output))
 }
 
 #[unsafe(no_mangle)]
@@ -108,5 +125,5 @@ pub extern "C" fn jpeg_block_islow_block_12bit_2x2(input: &[i16], output: &mut [
     ensures value { result ≡ status (inverse_tests 4 input.now output.old) }
     ensures output_after { output.new ≡ written result (block12bit two input.now) output.old }
 {
-    islow_block_12bit_2x2(input, output)
+    status(islow_block_12bit_2x2(input, output))
 }

@@ -6,9 +6,10 @@ ghost use Rattle.block.specs.Clamped.{block_raised, block_lowered};
 ghost use Rattle.refusals.specs.Refusals.{status, written};
 ghost use Rattle.jpeg_block.specs.Counts.{counts_tests, counts_left};
 
-use crate::counts::{block_status, put_counts};
+use crate::counts::{block_room, put_counts};
 use idct_8x8::{islow_block_i32, islow_block_top_half_i32};
 
+#[tactic(auto, unfolding(refusals::specs::Refusals::status, refusals::specs::Refusals::written))]
 #[unsafe(no_mangle)]
 pub extern "C" fn jpeg_block_islow_block_i32(
     input: &[i32],
@@ -19,15 +20,19 @@ pub extern "C" fn jpeg_block_islow_block_i32(
     ensures output_after { output.new ≡ written result (block eight input.now) output.old }
     ensures counts_after { counts.new ≡ written result (counts_left (block_raised eight input.now) (block_lowered eight input.now) counts.old) counts.old }
 {
-    let status = block_status(input.len(), output.len(), 64, counts.len());
-    if status != 0 {
-        return status;
+    if let Err(refusal) = block_room(input.len(), output.len(), 64, counts.len()) {
+        return refusal.number();
     }
-    let answer = islow_block_i32(input, output);
-    put_counts(answer.raised, answer.lowered, counts);
-    0
+    match islow_block_i32(input, output) {
+        Ok(clamped) => {
+            put_counts(clamped, counts);
+            0
+        }
+        Err(refusal) => refusal.number(),
+    }
 }
 
+#[tactic(auto, unfolding(refusals::specs::Refusals::status, refusals::specs::Refusals::written))]
 #[unsafe(no_mangle)]
 pub extern "C" fn jpeg_block_islow_block_top_half_i32(
     input: &[i32],
@@ -38,11 +43,14 @@ pub extern "C" fn jpeg_block_islow_block_top_half_i32(
     ensures output_after { output.new ≡ written result (block eight (first_rows 4 input.now)) output.old }
     ensures counts_after { counts.new ≡ written result (counts_left (block_raised eight (first_rows 4 input.now)) (block_lowered eight (first_rows 4 input.now)) counts.old) counts.old }
 {
-    let status = block_status(input.len(), output.len(), 64, counts.len());
-    if status != 0 {
-        return status;
+    if let Err(refusal) = block_room(input.len(), output.len(), 64, counts.len()) {
+        return refusal.number();
     }
-    let answer = islow_block_top_half_i32(input, output);
-    put_counts(answer.raised, answer.lowered, counts);
-    0
+    match islow_block_top_half_i32(input, output) {
+        Ok(clamped) => {
+            put_counts(clamped, counts);
+            0
+        }
+        Err(refusal) => refusal.number(),
+    }
 }

@@ -1,34 +1,27 @@
-// An answer that holds its status and a value, given as C takes it: the status is returned, the value goes to a lent place of one
-// number.
+// What C gets of a result: the status is returned, and a value goes to a lent place of one number.
 ghost use Rattle.std.specs.Prelude.{◌≡◌, [], ◌∷◌};
+ghost use Rattle.refusals.specs.Numbers.{status_of};
 ghost use Rattle.refusals.specs.Refusals.{status, written};
-ghost use Rattle.jpeg_block.specs.Places.{place_tests, flag};
+ghost use Rattle.jpeg_block.specs.Places.{place_tests};
 
-pub fn place_i16(number: u32, value: i16, place: &mut [i16]) -> u32
-    ensures value { result ≡ written number (status (place_tests place.old)) number }
-    ensures place_after { place.new ≡ written result (value ∷ []) place.old }
+use refusals::Refusal;
+
+// 0, or the refusal's number.
+pub fn status(answer: Result<(), Refusal>) -> u32
+    ensures { result ≡ status_of answer }
 {
-    if number != 0 {
-        return number;
+    match answer {
+        Ok(()) => 0,
+        Err(refusal) => refusal.number(),
     }
-    if place.len() != 1 {
-        return 3;
-    }
-    place[0] = value;
-    0
 }
 
-// 1 for yes, 0 for no.
-pub fn place_bool(number: u32, yes: bool, place: &mut [u8]) -> u32
-    ensures value { result ≡ written number (status (place_tests place.old)) number }
-    ensures place_after { place.new ≡ written result (flag yes ∷ []) place.old }
+#[tactic(auto, using(crate::proofs::Places::one_left), unfolding(refusals::specs::Refusals::status, refusals::specs::Refusals::written))]
+pub fn put<T: Copy>(value: T, place: &mut [T]) -> Result<(), Refusal>
+    ensures value { status_of result ≡ status (place_tests place.old) }
+    ensures place_after { place.new ≡ written (status_of result) (value ∷ []) place.old }
 {
-    if number != 0 {
-        return number;
-    }
-    if place.len() != 1 {
-        return 3;
-    }
-    place[0] = yes as u8;
-    0
+    Refusal::Output.unless(place.len() == 1)?;
+    place[0] = value;
+    Ok(())
 }

@@ -1,11 +1,14 @@
 // The queue of benches (crate bench_queue). A state is ten numbers in a lent place: the bench count, the bench last served, the eight
 // waiting counts. A call that is not refused leaves the new state there.
-ghost use Rattle.std.specs.Prelude.{◌≡◌, [], ◌∷◌, ◌++◌, length};
+ghost use Rattle.std.specs.Prelude.{◌≡◌, [], ◌∷◌, ◌++◌, length, Some};
 ghost use Rattle.refusals.specs.Refusals.{◌unless◌, ◌of◌, status, written};
+ghost use Rattle.refusals.specs.Numbers.{status_of};
 ghost use Rattle.bench_queue.specs.Calls.{new_tests, new_answer, deposit_answer, turn_answer, turn_output, report_answer};
 ghost use Rattle.jpeg_block.specs.Queue.{state_numbers, handed_state, word_number, handed_deposit_tests, handed_turn_tests, handed_report_tests};
 
+use crate::place::status;
 use bench_queue::{BenchQueue, Word};
+use refusals::Refusal;
 
 fn handed_state(state: &[u32]) -> BenchQueue
     requires { length state.now ≡ 10 }
@@ -20,17 +23,6 @@ fn handed_state(state: &[u32]) -> BenchQueue
     }
 }
 
-fn put_numbers(from: &[u32], to: &mut [u32])
-    requires { length to.old ≡ length from.now }
-    ensures { to.new ≡ from.now }
-{
-    let mut n = 0;
-    while n < from.len() {
-        to[n] = from[n];
-        n += 1;
-    }
-}
-
 fn put_state(q: BenchQueue, state: &mut [u32])
     requires { length state.old ≡ 10 }
     ensures { state.new ≡ state_numbers q }
@@ -39,54 +31,74 @@ fn put_state(q: BenchQueue, state: &mut [u32])
     let numbers = [
         q.benches, q.last, w[0], w[1], w[2], w[3], w[4], w[5], w[6], w[7],
     ];
-    put_numbers(&numbers, state);
+    state.copy_from_slice(&numbers);
+}
+
+#[tactic(auto, unfolding(refusals::specs::Refusals::status, refusals::specs::Refusals::written))]
+fn put_new(q: BenchQueue, state: &mut [u32]) -> Result<(), Refusal>
+    ensures value { status_of result ≡ status (3 unless state.old of 10 ∷ []) }
+    ensures state_after { state.new ≡ written (status_of result) (state_numbers q) state.old }
+{
+    Refusal::Output.unless(state.len() == 10)?;
+    put_state(q, state);
+    Ok(())
 }
 
 fn word_number(word: Word) -> u32
-    ensures { result ≡ word_number word }
+    ensures { result ≡ word_number (Some word) }
 {
     match word {
-        Word::Neither => 0,
         Word::Spent => 1,
         Word::Idle => 2,
     }
 }
 
+#[tactic(auto, unfolding(refusals::specs::Refusals::status, refusals::specs::Refusals::written))]
+fn put_counts(waiting: &[u32; 8], counts: &mut [u32]) -> Result<(), Refusal>
+    ensures value { status_of result ≡ status (3 unless counts.old of 8 ∷ []) }
+    ensures counts_after { counts.new ≡ written (status_of result) waiting.now counts.old }
+{
+    Refusal::Output.unless(counts.len() == 8)?;
+    counts.copy_from_slice(waiting);
+    Ok(())
+}
+
 // Refusal 13, then 3 for the place of the state.
+#[tactic(auto, unfolding(refusals::specs::Refusals::status, refusals::specs::Refusals::written))]
 #[unsafe(no_mangle)]
 pub extern "C" fn jpeg_block_bench_queue_new(benches: u32, state: &mut [u32]) -> u32
     ensures value { result ≡ status (new_tests benches ++ 3 unless state.old of 10 ∷ []) }
     ensures state_after { state.new ≡ written result (state_numbers (new_answer benches).state) state.old }
 {
     let made = BenchQueue::new(benches);
-    if made.status != 0 {
-        return made.status;
+    match made.outcome {
+        Ok(()) => status(put_new(made.state, state)),
+        Err(refusal) => refusal.number(),
     }
-    if state.len() != 10 {
-        return 3;
-    }
-    put_state(made.state, state);
-    0
 }
 
 // Refusals 13 and 14.
+#[tactic(auto, unfolding(refusals::specs::Refusals::status, refusals::specs::Refusals::written))]
 #[unsafe(no_mangle)]
 pub extern "C" fn jpeg_block_bench_queue_deposit(state: &mut [u32], bench: u32, blocks: u32) -> u32
     ensures value { result ≡ status (handed_deposit_tests state.old bench blocks) }
     ensures state_after { state.new ≡ written result (state_numbers (deposit_answer (handed_state state.old) bench blocks).state) state.old }
 {
     if state.len() != 10 {
-        return 13;
+        return Refusal::State.number();
     }
     let deposited = handed_state(state).deposit(bench, blocks);
-    if deposited.status != 0 {
-        return deposited.status;
+    match deposited.outcome {
+        Ok(()) => {
+            put_state(deposited.state, state);
+            0
+        }
+        Err(refusal) => refusal.number(),
     }
-    put_state(deposited.state, state);
-    0
 }
 
 // Refusal 13, then 3 for the output and for the place of the answer, which are the number of blocks listed and the word.
+#[tactic(auto, unfolding(refusals::specs::Refusals::status, refusals::specs::Refusals::written))]
 #[unsafe(no_mangle)]
 pub extern "C" fn jpeg_block_bench_queue_turn(
     state: &mut [u32],
@@ -100,42 +112,39 @@ pub extern "C" fn jpeg_block_bench_queue_turn(
     ensures answer_after { answer.new ≡ written result ((turn_answer (handed_state state.old) l out.old).listed ∷ word_number (turn_answer (handed_state state.old) l out.old).word ∷ []) answer.old }
 {
     if state.len() != 10 {
-        return 13;
+        return Refusal::State.number();
     }
     let q = handed_state(state);
-    if q.report().status != 0 {
-        return 13;
+    match q.report().outcome {
+        Ok(_) => {}
+        Err(refusal) => return refusal.number(),
     }
     if answer.len() != 2 {
-        return 3;
+        return Refusal::Output.number();
     }
     let turned = q.turn(l, out);
-    if turned.status != 0 {
-        return turned.status;
+    match turned.outcome {
+        Ok(coded) => {
+            put_state(turned.state, state);
+            answer.copy_from_slice(&[coded.listed, word_number(coded.word)]);
+            0
+        }
+        Err(refusal) => refusal.number(),
     }
-    put_state(turned.state, state);
-    let word = turned.word;
-    let numbers = [turned.listed, word_number(word)];
-    put_numbers(&numbers, answer);
-    0
 }
 
 // Refusal 13, then 3 for the place of the counts.
+#[tactic(auto, unfolding(refusals::specs::Refusals::status, refusals::specs::Refusals::written))]
 #[unsafe(no_mangle)]
 pub extern "C" fn jpeg_block_bench_queue_report(state: &[u32], counts: &mut [u32]) -> u32
     ensures value { result ≡ status (handed_report_tests state.now counts.old) }
     ensures counts_after { counts.new ≡ written result (report_answer (handed_state state.now)).waiting counts.old }
 {
     if state.len() != 10 {
-        return 13;
+        return Refusal::State.number();
     }
-    let reported = handed_state(state).report();
-    if reported.status != 0 {
-        return reported.status;
+    match handed_state(state).report().outcome {
+        Ok(waiting) => status(put_counts(&waiting, counts)),
+        Err(refusal) => refusal.number(),
     }
-    if counts.len() != 8 {
-        return 3;
-    }
-    put_numbers(&reported.waiting, counts);
-    0
 }

@@ -1,32 +1,53 @@
 // Fewest coefficients within an error (crate fewest). What was found is three numbers in a lent place: the percent, or 0 where none tried
 // is good; how far off it is at most; the number of trials. All lengths are tested before anything is searched.
-ghost use Rattle.std.specs.Prelude.{◌≡◌, length};
-ghost use Rattle.refusals.specs.Refusals.{status, written};
-ghost use Rattle.fewest.specs.Fewest.{percent_of, fewest_answer};
+ghost use Rattle.std.specs.Prelude.{◌≡◌, ◌++◌, ◌∷◌, [], eqb, length, Ok};
+ghost use Rattle.refusals.specs.Refusals.{◌unless◌, status, written};
+ghost use Rattle.refusals.specs.Numbers.{status_of};
+ghost use Rattle.fewest.specs.Fewest.{percent_of, search_tests, fewest_answer};
+ghost use Rattle.fewest.specs.Told.{told, found_in};
 ghost use Rattle.jpeg_block.specs.Search.{fewest_numbers, fewest_place_tests};
 
-use fewest::{Fewest, Found, fewest_coefficients, search_status};
+use fewest::{Fewest, fewest_coefficients, search_status};
+use refusals::Refusal;
 
-fn found_percent(found: Found) -> u32
-    ensures { result ≡ percent_of found }
+// 0 where none tried is good.
+#[tactic(auto, unfolding(fewest::specs::Fewest::percent_of))]
+fn found_percent(found: Option<u32>) -> u32
+    ensures { result ≡ percent_of (found_in found) }
 {
     match found {
-        Found::NoneGood => 0,
-        Found::Good(percent) => percent,
+        Some(percent) => percent,
+        None => 0,
     }
 }
 
 fn put_fewest(fewest: Fewest, answer: &mut [u64])
     requires { length answer.old ≡ 3 }
-    ensures { answer.new ≡ fewest_numbers fewest }
+    ensures { answer.new ≡ fewest_numbers (told (Ok fewest)) }
 {
-    let found = fewest.found;
-    answer[0] = found_percent(found) as u64;
-    answer[1] = fewest.off;
-    answer[2] = fewest.trials as u64;
+    let percent = found_percent(fewest.found);
+    answer.copy_from_slice(&[u64::from(percent), fewest.off, u64::from(fewest.trials)]);
+}
+
+// The tests of the search, and that of the place.
+#[tactic(auto, unfolding(refusals::specs::Refusals::status, refusals::specs::Refusals::written))]
+fn search_room(
+    samples: &[u8],
+    width: usize,
+    height: usize,
+    base: &[u8],
+    answer: usize,
+) -> Result<(), Refusal>
+    ensures { status_of result ≡ status (search_tests samples.now width height base.now ++ 3 unless eqb answer 3 ∷ []) }
+{
+    match search_status(samples, width, height, base) {
+        Ok(()) => Refusal::Output.unless(answer == 3),
+        Err(refusal) => Err(refusal),
+    }
 }
 
 // Refusals 8, 9, 2, then 3 for the place of the answer.
+#[tactic(auto, unfolding(refusals::specs::Refusals::status, refusals::specs::Refusals::written))]
 #[unsafe(no_mangle)]
 pub extern "C" fn jpeg_block_fewest_coefficients(
     samples: &[u8],
@@ -40,16 +61,14 @@ pub extern "C" fn jpeg_block_fewest_coefficients(
     ensures value { result ≡ status (fewest_place_tests samples.now width height base.now answer.old) }
     ensures answer_after { answer.new ≡ written result (fewest_numbers (fewest_answer samples.now width height base.now limit trials)) answer.old }
 {
-    let number = search_status(samples, width, height, base);
-    if number != 0 {
-        return number;
+    if let Err(refusal) = search_room(samples, width, height, base, answer.len()) {
+        return refusal.number();
     }
-    if answer.len() != 3 {
-        return 3;
+    match fewest_coefficients(samples, width, height, base, limit, trials) {
+        Ok(fewest) => {
+            put_fewest(fewest, answer);
+            0
+        }
+        Err(refusal) => refusal.number(),
     }
-    put_fewest(
-        fewest_coefficients(samples, width, height, base, limit, trials),
-        answer,
-    );
-    0
 }

@@ -3,6 +3,7 @@ ghost use Rattle.std.specs.Prelude.{◌≡◌};
 ghost use Rattle.refusals.specs.Refusals.{status, written};
 ghost use Rattle.plane.specs.Join.{joined, join_tests};
 
+use crate::place::status;
 use plane::join::join_planes;
 
 #[unsafe(no_mangle)]
@@ -20,7 +21,7 @@ pub extern "C" fn jpeg_block_join_planes(
     ensures value { result ≡ status (join_tests left.now left_width left_height left_quant.now right.now right_width right_height right_quant.now out.old) }
     ensures out_after { out.new ≡ written result (joined left_width right_width left_height left.now right.now) out.old }
 {
-    join_planes(
+    status(join_planes(
         left,
         left_width,
         left_height,
@@ -30,5 +31,5 @@ pub extern "C" fn jpeg_block_join_planes(
         right_height,
         right_quant,
         out,
-    )
+    ))
 }

@@ -2,15 +2,12 @@
 ghost use Rattle.std.specs.Prelude.{◌<◌, ◌≤◌};
 
 // The most numbers that a case has.
-pub const MOST: usize = 20;
+const MOST: usize = 20;
 
-// What is read of a line: how many numbers ended, and the one at hand.
-#[derive(Clone, Copy)]
-struct Scan {
-    ended: usize,
-    value: u64,
-    minus: bool,
-    inside: bool,
+// Those that a line lacks are 0.
+#[derive(Drop)]
+pub struct Case {
+    numbers: [u64; MOST],
 }
 
 // One more digit. A number that does not fit is the largest.
@@ -18,95 +15,54 @@ fn append(value: u64, digit: u8) -> u64 {
     if value > 1_844_674_407_370_955_136 {
         u64::MAX
     } else {
-        value * 10 + digit as u64
+        value * 10 + u64::from(digit.wrapping_sub(b'0'))
     }
 }
 
-// One more where a number ended, and never more than the most.
-fn counted(ended: usize, inside: bool) -> usize {
-    if inside {
-        if ended < MOST {
-            return ended + 1;
+impl Case {
+    pub fn new(line: &[u8]) -> Case {
+        let mut numbers = [0u64; MOST];
+        let mut places = numbers.iter_mut();
+        let mut minus = false;
+        for run in line.chunk_by(|a, b| a.is_ascii_digit() == b.is_ascii_digit()) {
+            if run.iter().all(|byte| byte.is_ascii_digit()) {
+                let Some(place) = places.next() else { break };
+                let value = run.iter().fold(0, |value, digit| append(value, *digit));
+                // In two's complement.
+                *place = if minus { value.wrapping_neg() } else { value };
+            }
+            minus = run.ends_with(b"-");
         }
+        Case { numbers }
     }
-    ended
-}
 
-fn step(scan: Scan, byte: u8) -> Scan {
-    if byte < b'0' || byte > b'9' {
-        return Scan {
-            ended: counted(scan.ended, scan.inside),
-            value: 0,
-            minus: byte == b'-',
-            inside: false,
-        };
+    pub fn u64_at(&self, k: usize) -> u64 {
+        self.numbers.get(k).copied().unwrap_or(0)
     }
-    Scan {
-        ended: scan.ended,
-        value: append(scan.value, byte - b'0'),
-        minus: scan.minus,
-        inside: true,
+
+    pub fn u8_at(&self, k: usize) -> u8 {
+        (self.u64_at(k) % 0x100) as u8
     }
-}
 
-// In two's complement.
-fn signed(value: u64, minus: bool) -> u64 {
-    if minus { value.wrapping_neg() } else { value }
-}
-
-// Those that a line lacks are 0.
-pub fn numbers(line: &[u8]) -> [u64; MOST] {
-    let mut found = [0u64; MOST];
-    let mut scan = Scan {
-        ended: 0,
-        value: 0,
-        minus: false,
-        inside: false,
-    };
-    for byte in line {
-        scan = step(scan, *byte);
-        if scan.ended < MOST {
-            found[scan.ended] = signed(scan.value, scan.minus);
-        }
+    pub fn i16_at(&self, k: usize) -> i16 {
+        ((self.u64_at(k) % 0x1_0000) as u16).cast_signed()
     }
-    found
-}
 
-pub fn u8_at(v: &[u64; MOST], k: usize) -> u8
-    requires { k < 20 }
-{
-    (v[k] % 256) as u8
-}
-
-pub fn i16_at(v: &[u64; MOST], k: usize) -> i16
-    requires { k < 20 }
-{
-    let x = (v[k] % 65536) as u16;
-    if x <= 0x7fff {
-        x as i16
-    } else {
-        !((u16::MAX - x) as i16)
+    pub fn i32_at(&self, k: usize) -> i32 {
+        ((self.u64_at(k) % 0x1_0000_0000) as u32).cast_signed()
     }
-}
 
-pub fn i32_at(v: &[u64; MOST], k: usize) -> i32
-    requires { k < 20 }
-{
-    wrapping::bits::from_bits_u32((v[k] % 4_294_967_296) as u32)
-}
+    // How many places of a room.
+    pub fn places(&self, k: usize) -> usize
+        ensures { result ≤ 65 }
+    {
+        (self.u64_at(k) % 66) as usize
+    }
 
-// How many places of a room.
-pub fn places(v: &[u64; MOST], k: usize) -> usize
-    requires { k < 20 }
-    ensures { result ≤ 65 }
-{
-    (v[k] % 66) as usize
-}
-
-// A place of a block.
-pub fn entry(v: &[u64; MOST], k: usize) -> usize
-    requires { k < 20 }
-    ensures { result < 64 }
-{
-    (v[k] % 64) as usize
+    // A place of a block.
+    pub fn entry(&self, k: usize) -> usize
+        ensures { result < 64 }
+    {
+        (self.u64_at(k) % 64) as usize
+    }
 }

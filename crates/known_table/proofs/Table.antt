@@ -15,7 +15,7 @@ use Rattle.gains.specs.Gains.{mirror, mirrored, upper, gains}
 use Rattle.scaling.specs.Scaling.{descaled}
 use Rattle.clamping.specs.Clamping.{clamp_to, sample_u8, sample12bit}
 use Rattle.passes.specs.Passes.{eight, pass, column_pass, row_pass}
-use Rattle.block.specs.Block.{column_of, columns, row_of, row_samples, samples, block, block12bit}
+use Rattle.block.specs.Block.{column_of, columns, row_of, row_at, row_samples, samples, block, block12bit}
 use Rattle.known_table.specs.Table.{Case, forward, inverse, inverse12bit, table, flat, given, expected, Holds}
 
 -- the coefficients of 64 equal samples and quantizers, by the sums of the basis
@@ -39,7 +39,7 @@ given-computed (inverse dc sample) = refl
 given-computed (inverse12bit dc sample) = refl
 
 cases : map computed table ≡ map expected table
-unfolding computed equal table given expected flat tab coefficient divisor_of rounded with_sign block block12bit samples row_samples row_of columns column_of column_pass row_pass pass eight transform zero_at wrap modulo dot descaled clamp_to sample_u8 sample12bit gains upper mirrored mirror
+unfolding computed equal table given expected flat tab coefficient divisor_of rounded with_sign block block12bit samples row_samples row_at columns column_of column_pass row_pass pass eight transform zero_at wrap modulo dot descaled clamp_to sample_u8 sample12bit gains upper mirrored mirror
 cases = refl
 
 pub known-blocks : Holds table

@@ -3,3 +3,4 @@ pub mod Below
 pub mod Every
 pub mod Grid
 pub mod Parts
+pub mod Made

@@ -8,7 +8,7 @@
 
 #![tactic(auto)]
 
-ghost use Rattle.std.specs.Prelude.{◌≡◌, ◌≤◌, ◌<◌, length};
+ghost use Rattle.std.specs.Prelude.{◌≤◌};
 
 use fdct::fdct_quantize;
 use fdct_f64::{fdct_values, quantization_divisors};
@@ -21,62 +21,46 @@ use zigzag::zigzag;
 // A proved loop has to end, and nothing says that the input does. There are fewer blocks.
 const MOST: u64 = 1_000_000;
 
-// At how many frequencies the value times its reciprocal is near a half.
-fn guards_of(block: &[u8], quant: &[u8]) -> u64
-    requires { length block.now ≡ 64 }
+// At how many frequencies the value times its reciprocal is near a half; 0 where a call is refused.
+fn guards_of(block: &[u8; 64], quant: &[u8; 64]) -> usize
     ensures { result ≤ 64 }
 {
-    let made = quantization_divisors(quant);
-    let reciprocals = made.divisors.reciprocals;
-    let values = fdct_values(block);
-    let mut guards = 0;
-    for n in 0..64 {
-        if near_half(values[n] * reciprocals[n]) {
-            guards += 1;
-        }
-    }
-    guards
-}
-
-// An entry of zigzag order as an index; each is below 64.
-fn place(natural: u8) -> usize
-    ensures { result < 64 }
-{
-    (natural as usize) % 64
+    let Ok(divisors) = quantization_divisors(quant) else {
+        return 0;
+    };
+    fdct_values(block)
+        .iter()
+        .zip(&divisors.reciprocals)
+        .filter(|(value, reciprocal)| near_half(**value * **reciprocal))
+        .count()
 }
 
 // At how many frequencies the record has another coefficient than the canonical block entry writes;
 // 64 where a call is refused.
-fn differences_of(block: &[u8], quant: &[u8]) -> u64
+fn differences_of(block: &[u8; 64], quant: &[u8; 64]) -> usize
     ensures { result ≤ 64 }
 {
-    let got = fdct_quantize_record(block, quant);
     let mut canonical = [0i16; 64];
-    let status = fdct_quantize(block, quant, &mut canonical);
-    if (got.status | status) != 0 {
+    let (Ok(record), Ok(())) = (
+        fdct_quantize_record(block, quant),
+        fdct_quantize(block, quant, &mut canonical),
+    ) else {
         return 64;
-    }
-    let mut held = got.block.ac_coefficients;
-    held[0] = got.block.dc;
-    let order = zigzag();
-    let mut differences = 0;
-    for z in 0..64 {
-        if held[z] != canonical[place(order[z])] {
-            differences += 1;
-        }
-    }
-    differences
-}
-
-fn line(rt: &impl Print, label: &str, n: u64) -> io::Result<()> {
-    println!(rt; "{label}{n}")
+    };
+    let mut held = record.ac_coefficients;
+    held[0] = record.dc;
+    // Each entry of zigzag order is below 64.
+    held.iter()
+        .zip(zigzag())
+        .filter(|(c, natural)| **c != canonical[usize::from(*natural) % 64])
+        .count()
 }
 
 fn main(rt: HostRuntime) -> io::Result<()> {
     let mut input = rt.reader();
-    let mut blocks: u64 = 0;
-    let mut guards: u64 = 0;
-    let mut differences: u64 = 0;
+    let mut blocks: usize = 0;
+    let mut guards: usize = 0;
+    let mut differences: usize = 0;
     let mut block = [0u8; 64];
     let mut quant = [0u8; 64];
     for _ in 0..MOST {
@@ -88,8 +72,8 @@ fn main(rt: HostRuntime) -> io::Result<()> {
         differences += differences_of(&block, &quant);
         blocks += 1;
     }
-    line(&rt, "blocks ", blocks)?;
-    line(&rt, "coefficients ", 64 * blocks)?;
-    line(&rt, "guard taken ", guards)?;
-    line(&rt, "differences ", differences)
+    println!(rt; "blocks {blocks}")?;
+    println!(rt; "coefficients {}", 64 * blocks)?;
+    println!(rt; "guard taken {guards}")?;
+    println!(rt; "differences {differences}")
 }

@@ -5,11 +5,12 @@ use mathlib.Core.Bool.{Bool, true, false, cond}
 use mathlib.Core.List.{List, map}
 use Prim.Native.Nat.{ℕ, ◌+◌, ◌^◌, ◌<◌}
 use lib.ListN.{length, replicate, length-map, length-replicate}
-use lib.IntN.{ℤ, pos, ◌*ℤ◌}
+use lib.IntN.{ℤ, pos, ◌*ℤ◌, *ℤ_comm}
 use lib.Signed.{mag}
 use mir.Syntax.{Width, w32}
 use mir.Val.{to_z, of_z}
 use mir.ValLaws.{to_z-of_z}
+use Rattle.std.proofs.lemmas.List.{map-id}
 use Rattle.integers.specs.Wrap.{wrap}
 use Rattle.integers.specs.Linear.{transform, zero_at}
 use Rattle.integers.proofs.Wrap.{wrap-read}
@@ -18,10 +19,10 @@ use Rattle.scaling.specs.Scaling.{descaled}
 use Rattle.passes.specs.Passes.{Size, dc, pass, column_pass, row_pass}
 
 module _ (w : Width) (rows : List (List ℤ)) (s : ℕ) where
-  -- q is the transform, and r each output of it scaled down
-  pub passed : (p : List ℤ) {q r : List ℤ} → q ≡ transform w rows p → r ≡ map (λ v. descaled w v s) q → r ≡ pass w rows s p
+  -- q is the transform, at a type whose values are their own numbers, and r each output of it scaled down
+  pub passed : (p q : List ℤ) {r : List ℤ} → map (λ z. z) q ≡ transform w rows (map (λ z. z) p) → r ≡ map (λ v. descaled w v s) q → r ≡ pass w rows s p
   unfolding pass
-  passed p e f = f ∙ ap (map (λ v. descaled w v s)) e
+  passed p q e f = f ∙ ap (map (λ v. descaled w v s)) (sym (map-id q) ∙ e ∙ ap (transform w rows) (map-id p))
 
   -- a number for each row of gains
   pub length-pass : (p : List ℤ) → length (pass w rows s p) ≡ length rows
@@ -60,8 +61,8 @@ module _ (z : Size) (p : List ℤ) {t : Bool} (e : t ≡ zero_at z.ac p) where
   full-row h f = simp (sym e ∙ h) f
 
 -- 4·p0, as the code's product gave it
-pub dc-column : (a : ℤ) {r : ℤ} → mag a < 2 ^ 31 → r ≡ wrap w32 (pos 4 *ℤ to_z w32 (of_z w32 a)) → to_z w32 (of_z w32 r) ≡ wrap w32 (pos 4 *ℤ a)
-dc-column a f e = wrap-read w32 (pos 4 *ℤ a) (e ∙ ap (λ (x : ℤ). wrap w32 (pos 4 *ℤ x)) (to_z-of_z w32 a (record { sfits = f })))
+pub dc-column : (a : ℤ) {r : ℤ} → mag a < 2 ^ 31 → r ≡ wrap w32 (to_z w32 (of_z w32 a) *ℤ pos 4) → to_z w32 (of_z w32 r) ≡ wrap w32 (pos 4 *ℤ a)
+dc-column a f e = wrap-read w32 (pos 4 *ℤ a) (e ∙ ap (λ x. wrap w32 (x *ℤ pos 4)) (to_z-of_z w32 a (record { sfits = f })) ∙ ap (wrap w32) (*ℤ_comm a (pos 4)))
 
 -- a row has as many numbers as the size's side
 pub length-row : (z : Size) (p : List ℤ) → length z.matrix ≡ z.side → length (row_pass z p) ≡ z.side

@@ -17,7 +17,7 @@ ghost use Rattle.passes.specs.Passes.{pass};
 
 use gains::{CONST_BITS, PASS1_BITS};
 use islow::islow_1d;
-use scaling::descale_i32;
+use scaling::descale_by;
 
 // Right shift that ends the column pass.
 pub const PASS1_SHIFT: u32 = (CONST_BITS - PASS1_BITS) as u32;
@@ -30,11 +30,9 @@ pub fn descale_8(values: [i32; 8], shift: u32) -> [i32; 8]
     requires { (1 ≤ shift) × (shift ≤ 31) }
     ensures { result ≡ map (λ v. descaled w32 v shift) values }
 {
-    let mut out = [0i32; 8];
-    let mut i = 0;
-    while i < 8 {
-        out[i] = descale_i32(values[i], shift);
-        i += 1;
+    let mut out = values;
+    for i in 0..8 {
+        out[i] = descale_by(values[i], shift);
     }
     out
 }

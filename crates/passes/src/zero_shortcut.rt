@@ -9,8 +9,8 @@ ghost use Rattle.passes.specs.Passes.{eight, column_pass, row_pass};
 
 use crate::{islow_pass1, islow_pass2};
 use gains::PASS1_BITS;
-use scaling::descale_i32;
-use wrapping::wrapping_mul_i32;
+use scaling::descale_by;
+use wrapping::Wrapping;
 
 // Right shift of the row pass's zero shortcut.
 pub const DC_SHIFT: u32 = (PASS1_BITS + 3) as u32;
@@ -30,9 +30,10 @@ pub fn islow_column(p: [i32; 8]) -> [i32; 8]
     ensures { result ≡ column_pass eight p }
 {
     if ac_is_zero(p) {
-        return [wrapping_mul_i32(DC_GAIN, p[0]); 8];
+        [p[0].times(DC_GAIN); 8]
+    } else {
+        islow_pass1(p)
     }
-    islow_pass1(p)
 }
 
 // A row: `islow_pass2` with the zero shortcut.
@@ -40,7 +41,8 @@ pub fn islow_row(p: [i32; 8]) -> [i32; 8]
     ensures { result ≡ row_pass eight p }
 {
     if ac_is_zero(p) {
-        return [descale_i32(p[0], DC_SHIFT); 8];
+        [descale_by(p[0], DC_SHIFT); 8]
+    } else {
+        islow_pass2(p)
     }
-    islow_pass2(p)
 }

@@ -4,55 +4,39 @@
 
 #![tactic(auto)]
 
-ghost use Rattle.std.specs.Prelude.{◌≡◌, ◌≤◌, length};
+ghost use Rattle.std.specs.Prelude.{◌≡◌, ◌≤◌};
 ghost use Rattle.refusals.specs.Refusals.{status, written};
+ghost use Rattle.refusals.specs.Numbers.{status_of};
 ghost use Rattle.percent.specs.Percent.{percent_divisor, percent_table, percent_tests};
 
+use refusals::Refusal;
+use std::array;
+
+#[tactic(auto, unfolding(crate::specs::Percent::percent_divisor))]
 fn percent_divisor(base: u8, percent: u16) -> u8
     requires { percent ≤ 200 }
     ensures { result ≡ percent_divisor base percent }
 {
-    let share = ((base as u16) * percent + 50) / 100;
-    if share < 1 {
-        return 1;
-    }
-    if share > 255 {
-        return 255;
-    }
-    share as u8
+    ((u16::from(base) * percent + 50) / 100).clamp(1, 255) as u8
 }
 
-fn write_table(base: &[u8], percent: u16, out: &mut [u8])
-    requires base_len { length base.now ≡ 64 }
-    requires percent_bound { percent ≤ 200 }
-    requires out_len { length out.old ≡ 64 }
-    ensures { out.new ≡ percent_table base.now percent }
+fn divisors(base: &[u8; 64], percent: u16) -> [u8; 64]
+    requires { percent ≤ 200 }
+    ensures { result ≡ percent_table base.now percent }
 {
-    let mut n = 0;
-    while n < 64 {
-        out[n] = percent_divisor(base[n], percent);
-        n += 1;
-    }
+    array::from_fn(|n| percent_divisor(base[n], percent))
 }
 
 // A larger percent makes no divisor smaller (`table-grows`) and no zero coefficient of a block or a plane nonzero (`block-zeros`,
 // `plane-zeros`).
-pub fn percent_table(base: &[u8], percent: u32, out: &mut [u8]) -> u32
-    ensures value { result ≡ status (percent_tests base.now percent out.old) }
-    ensures out_after { out.new ≡ written result (percent_table base.now percent) out.old }
+#[tactic(auto, unfolding(refusals::specs::Refusals::status, refusals::specs::Refusals::written))]
+pub fn percent_table(base: &[u8], percent: u32, out: &mut [u8]) -> Result<(), Refusal>
+    ensures value { status_of result ≡ status (percent_tests base.now percent out.old) }
+    ensures out_after { out.new ≡ written (status_of result) (percent_table base.now percent) out.old }
 {
-    if base.len() != 64 {
-        return 2;
-    }
-    if out.len() != 64 {
-        return 3;
-    }
-    if percent < 1 {
-        return 11;
-    }
-    if percent > 200 {
-        return 11;
-    }
-    write_table(base, percent as u16, out);
-    0
+    let base = base.try_into().map_err(|_| Refusal::Table)?;
+    Refusal::Output.unless(out.len() == 64)?;
+    Refusal::Percent.unless(1 <= percent && percent <= 200)?;
+    out.copy_from_slice(&divisors(base, percent as u16));
+    Ok(())
 }

@@ -13,42 +13,30 @@ const K1: [u8; 64] = [
     92, 49, 64, 78, 87, 103, 121, 120, 101, 72, 92, 95, 98, 112, 100, 103, 99,
 ];
 
-fn item(rt: &impl Print, label: &str, n: u32) -> io::Result<()> {
-    print!(rt; "{label}{n}")
-}
-
-fn print_divisor(rt: &impl Print, label: &str, divisor: u8) -> io::Result<()> {
-    item(rt, label, divisor as u32)
-}
-
 fn print_divisors(rt: &impl Print, table: &[u8; 64]) -> io::Result<()> {
     for (n, divisor) in table.iter().enumerate() {
-        let label = if n % 8 == 0 { "\n" } else { " " };
-        print_divisor(rt, label, *divisor)?;
+        let separator = if n % 8 == 0 { "\n" } else { " " };
+        print!(rt; "{separator}{divisor}")?;
     }
     Ok(())
 }
 
 fn print_table(rt: &impl Print, base: &[u8; 64], percent: u32) -> io::Result<()> {
-    item(rt, "percent ", percent)?;
+    print!(rt; "percent {percent}")?;
     let mut table = [0u8; 64];
-    let status = percent_table(base, percent, &mut table);
-    if status == 0 {
-        print_divisors(rt, &table)?;
-    } else {
-        item(rt, ": refused ", status)?;
+    match percent_table(base, percent, &mut table) {
+        Ok(()) => print_divisors(rt, &table)?,
+        Err(refusal) => print!(rt; ": {refusal}")?,
     }
     println!(rt)
 }
 
 // Apart from `main`, whose proof alone carries the table.
 fn print_tables(rt: &impl Print, base: &[u8; 64]) -> io::Result<()> {
-    print_table(rt, base, 0)?;
-    print_table(rt, base, 1)?;
-    print_table(rt, base, 50)?;
-    print_table(rt, base, 100)?;
-    print_table(rt, base, 200)?;
-    print_table(rt, base, 201)
+    for percent in [0, 1, 50, 100, 200, 201] {
+        print_table(rt, base, percent)?;
+    }
+    Ok(())
 }
 
 fn main(rt: HostRuntime) {

@@ -12,9 +12,7 @@ use lib.Seq.{take_at, append_snoc, take-append_seam}
 use Rattle.plane.specs.Plane.{measured}
 use Rattle.plane.proofs.Coding.{measured-range}
 use Rattle.pgm.specs.Grammar.{Starts}
-use Rattle.pgm.specs.Header.{verdict, header_of}
-use Rattle.pgm.specs.declared.Answer.{Answer}
-use Rattle.pgm.specs.declared.Answer.TheVariants.{Header, Refused}
+use Rattle.pgm.specs.Header.{Answer, Header, Refused, verdict, header_of}
 use Rattle.pgm.specs.declared.Reader.{Reader}
 use Rattle.pgm.proofs.Grammar.{answered, only, found, Begins}
 use Rattle.pgm.proofs.Steps.{Has, has_end}

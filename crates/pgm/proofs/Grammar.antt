@@ -11,9 +11,7 @@ use lib.Dec.{eqb}
 use lib.ListN.{length, take, drop, length-take, length-append, take-append-drop}
 use lib.Seq.{take-append-add}
 use Rattle.pgm.specs.Grammar.{Without, none, kept, opened, inside, closed-cr, closed-lf, Run, one, more, decimal, Starts}
-use Rattle.pgm.specs.Header.{Text, end, byte, is_space, is_digit, in_comment, bare, starts_with, after, value, digits, number, field, verdict, whole, delimiter, exactly, header, header_of}
-use Rattle.pgm.specs.declared.Answer.{Answer}
-use Rattle.pgm.specs.declared.Answer.TheVariants.{Header, Refused}
+use Rattle.pgm.specs.Header.{Answer, Header, Refused, Text, end, byte, is_space, is_digit, in_comment, bare, starts_with, after, value, digits, number, field, verdict, whole, delimiter, exactly, header, header_of}
 use Rattle.pgm.proofs.Text.{space-no-digit}
 
 -- t is the bytes ts and then u

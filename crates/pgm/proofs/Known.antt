@@ -3,8 +3,7 @@
 use mathlib.Core.Path.{◌≡◌, refl}
 use mathlib.Core.List.{[], ◌∷◌}
 use Rattle.plane.specs.Plane.{measured}
-use Rattle.pgm.specs.Header.{is_space, is_digit, in_comment, bare, starts_with, after, value, digits, number, field, verdict, whole, delimiter, exactly, header, header_of}
-use Rattle.pgm.specs.declared.Answer.TheVariants.{Header, Refused}
+use Rattle.pgm.specs.Header.{Header, Refused, is_space, is_digit, in_comment, bare, starts_with, after, value, digits, number, field, verdict, whole, delimiter, exactly, header, header_of}
 
 pub record KnownHeaders : Type 0 where
   -- plain: `P5\n3 2\n255\n`

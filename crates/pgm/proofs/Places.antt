@@ -2,10 +2,8 @@
 -- 255 may be followed by more, and are judged by the byte behind them.
 -- Assumes nothing.
 use mathlib.Core.Path.{◌≡◌}
-use Prim.Native.Nat.{ℕ}
-use Rattle.pgm.specs.Header.{Text, end, byte, is_space, is_digit, starts_with, after, value, digits, number, field, whole, delimiter, exactly, header}
+use Rattle.pgm.specs.Header.{Refused, Text, end, byte, is_space, is_digit, starts_with, after, value, digits, number, field, whole, delimiter, exactly, header}
 use Rattle.pgm.specs.Reader.{behind, from}
-use Rattle.pgm.specs.declared.Answer.TheVariants.{Refused}
 use Rattle.pgm.specs.declared.Field.TheVariants as is
 use Rattle.pgm.specs.declared.Place.{Place}
 use Rattle.pgm.specs.declared.Place.TheVariants as at

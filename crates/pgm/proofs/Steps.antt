@@ -8,10 +8,11 @@ use native.Mathlib.Omega.{arith}
 use borrow.Author.Tests.{eq-eqb, ne_eqb}
 use lib.ListN.{take}
 use lib.Seq.{take-nil, append_snoc}
-use Rattle.pgm.specs.Header.{Text, byte, is_space, is_digit, in_comment, bare, delimiter, whole, exactly, header, header_of}
-use Rattle.pgm.specs.Reader.{Like, behind, from, following, reads, goes_on}
-use Rattle.pgm.specs.declared.Answer.{Answer}
-use Rattle.pgm.specs.declared.Answer.TheVariants.{Refused}
+use Rattle.pgm.specs.Header.{Answer, Refused, Text, byte, is_space, is_digit, in_comment, bare, delimiter, whole, exactly, header, header_of}
+use Rattle.std.specs.Prelude.{Result, Ok, Err}
+use Rattle.refusals.specs.declared.Refusal.{Refusal}
+use Rattle.pgm.specs.declared.Header.{Header as Found}
+use Rattle.pgm.specs.Reader.{Like, told, behind, from, following, reads, goes_on}
 use Rattle.pgm.specs.declared.Field.{Field}
 use Rattle.pgm.specs.declared.Field.TheVariants as is
 use Rattle.pgm.specs.declared.Place.{Place}
@@ -136,14 +137,18 @@ Has r xs = (bs : List ℕ) → reads r bs ≡ header_of (xs ++ bs)
 pub has_end : (r : Reader) (xs : List ℕ) → Has r xs → Refused 10 ≡ header_of xs
 has_end r xs has = sym (reads_end r) ∙ has [] ∙ ap header_of (append-nil xs)
 
-module _ (r : Reader) (xs : List ℕ) (b : ℕ) (m : Step) (has : Has r xs) (s : (bs : List ℕ) → reads r (b ∷ bs) ≡ goes_on m bs) where
+module _ (r : Reader) (xs : List ℕ) (b : ℕ) (m : Result Step Refusal) (has : Has r xs) (s : (bs : List ℕ) → reads r (b ∷ bs) ≡ goes_on m bs) where
   stepped : (bs : List ℕ) → goes_on m bs ≡ header_of ((xs ++ (b ∷ [])) ++ bs)
   stepped bs = sym (s bs) ∙ has (b ∷ bs) ∙ ap header_of (sym (append_snoc xs b bs))
 
-  pub has_more : (r' : Reader) → m ≡ step.More r' → Has r' (xs ++ (b ∷ []))
+  pub has_more : (r' : Reader) → m ≡ Ok (step.More r') → Has r' (xs ++ (b ∷ []))
   unfolding goes_on
   has_more r' e bs = rw e at (stepped bs)
 
-  pub has_done : (a : Answer) → m ≡ step.Done a → (bs : List ℕ) → a ≡ header_of ((xs ++ (b ∷ [])) ++ bs)
+  pub has_done : (h : Found) → m ≡ Ok (step.Done h) → (bs : List ℕ) → told (Ok h) ≡ header_of ((xs ++ (b ∷ [])) ++ bs)
   unfolding goes_on
-  has_done a e bs = rw e at (stepped bs)
+  has_done h e bs = rw e at (stepped bs)
+
+  pub has_refused : (e : Refusal) → m ≡ Err e → (bs : List ℕ) → told (Err e) ≡ header_of ((xs ++ (b ∷ [])) ++ bs)
+  unfolding goes_on
+  has_refused r e bs = rw e at (stepped bs)

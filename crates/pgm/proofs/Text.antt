@@ -7,10 +7,8 @@ use native.Mathlib.Omega.{arith}
 use borrow.Author.Tests.{leb-true, leb-false, lt-leb, ne_eqb}
 use lib.Dec.{leb}
 use Rattle.plane.specs.Plane.{measured}
-use Rattle.pgm.specs.Header.{Text, end, byte, is_space, is_digit, starts_with, after, value, digits, number, field, verdict, whole, delimiter, exactly, header}
+use Rattle.pgm.specs.Header.{Answer, Refused, Text, end, byte, is_space, is_digit, starts_with, after, value, digits, number, field, verdict, whole, delimiter, exactly, header}
 use Rattle.pgm.specs.Reader.{Like, behind, from}
-use Rattle.pgm.specs.declared.Answer.{Answer}
-use Rattle.pgm.specs.declared.Answer.TheVariants.{Refused}
 use Rattle.pgm.specs.declared.Field.{Field}
 use Rattle.pgm.specs.declared.Field.TheVariants as is
 use Rattle.pgm.specs.declared.Place.{Place}

@@ -3,8 +3,11 @@
 -- `header_of`, at the end. proofs/Exact.antt holds it to the grammar of Grammar.antt.
 use Rattle.std.specs.Prelude.{Bool, true, false, cond, not, ◌&&◌, ◌||◌, List, [], ◌∷◌, ℕ, ◌+◌, ◌-◌, ◌*◌, eqb, leb, take}
 use Rattle.plane.specs.Plane.{measured}
-use Rattle.pgm.specs.declared.Answer.{Answer}
-use Rattle.pgm.specs.declared.Answer.TheVariants.{Header, Refused}
+
+-- what an input's header comes to: its width, its height and how long it is in bytes, with the delimiter; or a refusal's number
+pub data Answer : Type 0 where
+  Header : ℕ → ℕ → ℕ → Answer
+  Refused : ℕ → Answer
 
 -- "Whitespace (blanks, TABs, CRs, LFs)"
 unfoldable pub is_space : ℕ → Bool

@@ -1,14 +1,21 @@
 -- What a reader stands for: the answer, once the bytes that follow are known.
-use Rattle.std.specs.Prelude.{◌≡◌, Bool, List, ℕ, ◌-◌, min, take}
-use Rattle.pgm.specs.declared.Answer.{Answer}
+use Rattle.std.specs.Prelude.{◌≡◌, Bool, List, ℕ, ◌-◌, min, take, Result, Ok, Err}
+use Rattle.refusals.specs.declared.Refusal.{Refusal}
+use Rattle.refusals.specs.Numbers.{number as number_of}
 use Rattle.pgm.specs.declared.Field.{Field}
 use Rattle.pgm.specs.declared.Field.TheVariants as is
+use Rattle.pgm.specs.declared.Header.{Header as Found}
 use Rattle.pgm.specs.declared.Place.{Place}
 use Rattle.pgm.specs.declared.Place.TheVariants as at
 use Rattle.pgm.specs.declared.Reader.{Reader}
 use Rattle.pgm.specs.declared.Step.{Step}
 use Rattle.pgm.specs.declared.Step.TheVariants as step
-use Rattle.pgm.specs.Header.{Text, bare, digits, number, field, delimiter, exactly, header}
+use Rattle.pgm.specs.Header.{Answer, Header, Refused, Text, bare, digits, number, field, delimiter, exactly, header}
+
+-- what a result says in the paper's terms
+abbrev pub told : Result Found Refusal → Answer
+told (Ok h) = Header h.width h.height h.length
+told (Err e) = Refused (number_of e)
 
 -- numbers that are equal, or both above 4096
 abbrev pub Like : ℕ → ℕ → Type 0
@@ -37,6 +44,7 @@ unfoldable pub reads : Reader → List ℕ → Answer
 reads r bs = from r.place (following r.comment r.count bs)
 
 -- the answer that a step leads to
-unfoldable pub goes_on : Step → List ℕ → Answer
-goes_on (step.More r) bs = reads r bs
-goes_on (step.Done a) bs = a
+unfoldable pub goes_on : Result Step Refusal → List ℕ → Answer
+goes_on (Ok (step.More r)) bs = reads r bs
+goes_on (Ok (step.Done h)) bs = told (Ok h)
+goes_on (Err e) bs = told (Err e)

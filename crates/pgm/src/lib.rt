@@ -9,22 +9,20 @@
 ghost use Rattle.std.specs.Prelude.{◌≡◌, true, false, List, ◌∷◌, ℕ, ◌+◌, ◌*◌, ◌-◌};
 ghost use Rattle.pgm.specs.Header.{Text, byte as Text·byte, is_space, is_digit, in_comment, header_of};
 ghost use Rattle.pgm.specs.Header.{whole as Header·whole};
-ghost use Rattle.pgm.specs.Reader.{Like, behind, from, following, reads, goes_on};
+ghost use Rattle.pgm.specs.Reader.{Like, told, behind, from, following, reads, goes_on};
 
 use plane::is_measured;
+use refusals::Refusal;
 
 // The most bytes of a header.
 pub const LIMIT: usize = 65536;
 
-// What an input's header comes to; `length` is in bytes, with the delimiter.
-#[derive(Clone, Copy)]
-pub enum Answer {
-    Header {
-        width: usize,
-        height: usize,
-        length: usize,
-    },
-    Refused(u32),
+// What a header says; `length` is its own in bytes, with the delimiter.
+#[derive(Clone, Copy, Debug, PartialEq, Eq)]
+pub struct Header {
+    pub width: usize,
+    pub height: usize,
+    pub length: usize,
 }
 
 // Which number of the header, with the ones before it.
@@ -57,35 +55,29 @@ pub struct Reader {
 #[derive(Clone, Copy)]
 pub enum Step {
     More(Reader),
-    Done(Answer),
+    Done(Header),
 }
 
+#[tactic(auto, unfolding(crate::specs::Header::is_space))]
 fn is_space(b: u8) -> bool
     ensures { result ≡ is_space b }
 {
-    if b == b' ' {
-        return true;
-    }
-    if b == b'\t' {
-        return true;
-    }
-    if b == b'\r' {
-        return true;
-    }
-    b == b'\n'
+    matches!(b, b' ' | b'\t' | b'\r' | b'\n')
 }
 
+#[tactic(auto, unfolding(crate::specs::Header::is_digit))]
 fn is_digit(b: u8) -> bool
     ensures { result ≡ is_digit b }
 {
-    b >= b'0' && b <= b'9'
+    b.is_ascii_digit()
 }
 
 // Whether a comment is still open behind a byte of it.
+#[tactic(auto, unfolding(crate::specs::Header::in_comment))]
 fn stays_open(b: u8) -> bool
     ensures { result ≡ in_comment true b }
 {
-    b != b'\r' && b != b'\n'
+    !matches!(b, b'\r' | b'\n')
 }
 
 // A number with one digit more.
@@ -96,91 +88,60 @@ fn appended(v: usize, b: u8) -> usize
     if v > 4096 {
         return v;
     }
-    v * 10 + ((b - b'0') as usize)
+    v * 10 + usize::from(b - b'0')
 }
 
-fn whole(width: usize, height: usize, maxval: usize, length: usize) -> Answer
-    ensures { result ≡ Header·whole width height maxval length }
+#[tactic(auto, unfolding(crate::specs::Header::whole, crate::specs::Header::verdict))]
+fn whole(width: usize, height: usize, maxval: usize, length: usize) -> Result<Header, Refusal>
+    ensures { told result ≡ Header·whole width height maxval length }
 {
-    if maxval != 255 {
-        return Answer::Refused(10);
-    }
-    if !is_measured(width) {
-        return Answer::Refused(8);
-    }
-    if !is_measured(height) {
-        return Answer::Refused(8);
-    }
-    Answer::Header {
+    Refusal::Picture.unless(maxval == 255)?;
+    Refusal::Measure.unless(is_measured(width))?;
+    Refusal::Measure.unless(is_measured(height))?;
+    Ok(Header {
         width,
         height,
         length,
-    }
-}
-
-// The header goes on behind `count` bytes, unless they are as many as it may have: then no further byte is read.
-fn go_on(place: Place, comment: bool, count: usize) -> Step
-    ensures { (bs : List ℕ) → from place (following comment count bs) ≡ goes_on result bs }
-{
-    if count >= LIMIT {
-        return Step::Done(Answer::Refused(10));
-    }
-    Step::More(Reader {
-        place,
-        comment,
-        count,
     })
 }
 
+// The header goes on behind `count` bytes, unless they are as many as it may have: then no further byte is read.
+fn go_on(place: Place, comment: bool, count: usize) -> Result<Step, Refusal>
+    ensures { (bs : List ℕ) → from place (following comment count bs) ≡ goes_on result bs }
+{
+    Refusal::Picture.unless(count < LIMIT)?;
+    Ok(Step::More(Reader {
+        place,
+        comment,
+        count,
+    }))
+}
+
 // White space behind a number, byte n of the input.
-fn behind_number(field: Field, v: usize, n: usize) -> Step
+fn behind_number(field: Field, v: usize, n: usize) -> Result<Step, Refusal>
     ensures { (b : ℕ) (bs : List ℕ) → is_space b ≡ true → behind field v (Text·byte b n (following false n bs)) ≡ goes_on result bs }
 {
     match field {
         Field::Width => go_on(Place::Before(Field::Height(v)), false, n),
         Field::Height(w) => go_on(Place::Before(Field::Maxval(w, v)), false, n),
-        Field::Maxval(w, h) => Step::Done(whole(w, h, v, n)),
+        Field::Maxval(w, h) => Ok(Step::Done(whole(w, h, v, n)?)),
     }
 }
 
 // Byte n of the input, which stands in no comment.
-fn step_bare(place: Place, b: u8, n: usize) -> Step
+fn step_bare(place: Place, b: u8, n: usize) -> Result<Step, Refusal>
     ensures { (bs : List ℕ) → from place (Text·byte b n (following false n bs)) ≡ goes_on result bs }
 {
     match place {
-        Place::Start => {
-            if b == b'P' {
-                return go_on(Place::P, false, n);
-            }
-        }
-        Place::P => {
-            if b == b'5' {
-                return go_on(Place::Magic, false, n);
-            }
-        }
-        Place::Magic => {
-            if is_space(b) {
-                return go_on(Place::Before(Field::Width), false, n);
-            }
-        }
-        Place::Before(f) => {
-            if is_space(b) {
-                return go_on(Place::Before(f), false, n);
-            }
-            if is_digit(b) {
-                return go_on(Place::In(f, appended(0, b)), false, n);
-            }
-        }
-        Place::In(f, v) => {
-            if is_digit(b) {
-                return go_on(Place::In(f, appended(v, b)), false, n);
-            }
-            if is_space(b) {
-                return behind_number(f, v, n);
-            }
-        }
+        Place::Start if b == b'P' => go_on(Place::P, false, n),
+        Place::P if b == b'5' => go_on(Place::Magic, false, n),
+        Place::Magic if is_space(b) => go_on(Place::Before(Field::Width), false, n),
+        Place::Before(f) if is_space(b) => go_on(Place::Before(f), false, n),
+        Place::Before(f) if is_digit(b) => go_on(Place::In(f, appended(0, b)), false, n),
+        Place::In(f, v) if is_digit(b) => go_on(Place::In(f, appended(v, b)), false, n),
+        Place::In(f, v) if is_space(b) => behind_number(f, v, n),
+        _ => Err(Refusal::Picture),
     }
-    Step::Done(Answer::Refused(10))
 }
 
 impl Reader {
@@ -196,41 +157,31 @@ impl Reader {
     }
 
     // One byte more: whatever bytes follow it, the step leads to the answer of this reader.
-    pub fn step(self, b: u8) -> Step
+    pub fn step(self, b: u8) -> Result<Step, Refusal>
         ensures { (bs : List ℕ) → reads self (b ∷ bs) ≡ goes_on result bs }
     {
-        let place = self.place;
-        let count = self.count;
-        if count >= LIMIT {
-            return Step::Done(Answer::Refused(10));
-        }
-        let n = count + 1;
+        Refusal::Picture.unless(self.count < LIMIT)?;
+        let n = self.count + 1;
         if self.comment {
-            return go_on(place, stays_open(b), n);
+            return go_on(self.place, stays_open(b), n);
         }
         if b == b'#' {
-            return go_on(place, true, n);
+            return go_on(self.place, true, n);
         }
-        step_bare(place, b, n)
+        step_bare(self.place, b, n)
     }
 }
 
 // The header of a whole input.
-pub fn header_of(input: &[u8]) -> Answer
-    ensures { result ≡ header_of input.now }
+pub fn header_of(input: &[u8]) -> Result<Header, Refusal>
+    ensures { told result ≡ header_of input.now }
 {
     let mut reader = Reader::new();
-    let mut i = 0;
-    while i < input.len() {
-        match reader.step(input[i]) {
-            Step::More(r) => {
-                reader = r;
-            }
-            Step::Done(a) => {
-                return a;
-            }
+    for b in input {
+        match reader.step(*b)? {
+            Step::More(r) => reader = r,
+            Step::Done(header) => return Ok(header),
         }
-        i += 1;
     }
-    Answer::Refused(10)
+    Err(Refusal::Picture)
 }

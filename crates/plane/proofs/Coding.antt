@@ -1,7 +1,7 @@
 -- Coding a plane: where a block is read, what a turn of the loop over the blocks adds, and what holds where no test fails.
 -- Assumes nothing.
 use mathlib.Core.Path.{◌≡◌, sym, ap, subst, ◌∙◌}
-use mathlib.Core.Bool.{true, ◌&&◌}
+use mathlib.Core.Bool.{true}
 use mathlib.Core.List.{List}
 use Prim.Native.Nat.{ℕ, ◌+◌, ◌-◌, ◌*◌, ◌/◌, ◌%◌, ◌≤◌, ◌<◌, min}
 use native.Mathlib.Nat.{mul-le-mul, le_of_eq, le_trans}
@@ -10,7 +10,7 @@ use borrow.Author.Tests.{eqb-true}
 use lib.Dec.{T, leb, leb→le}
 use lib.ListN.{length, get_or, take, drop, length-drop}
 use lib.Seq.{paste, length-take-le, get_or-take, get_or-drop}
-use lib.IntN.{ℤ, pos}
+use lib.IntN.{ℤ}
 use mir.Facts.{and_yes}
 use Rattle.lists.specs.Tab.{tab}
 use Rattle.lists.specs.Grid.{grid, at}

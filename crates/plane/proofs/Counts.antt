@@ -1,7 +1,7 @@
 -- The counts of a plane (document 02, card 4): they are the sums over its blocks, and fit 32 bits. Assumes nothing.
 use mathlib.Core.Path.{◌≡◌, refl, sym, ap, ap₂, ◌∙◌}
 use mathlib.Core.List.{List}
-use Prim.Native.Nat.{ℕ, zero, suc, ◌+◌, ◌*◌, ◌^◌, ◌≤◌, ◌<◌, zero-le}
+use Prim.Native.Nat.{ℕ, zero, suc, ◌+◌, ◌*◌, ◌^◌, ◌≤◌, zero-le}
 use native.Mathlib.Nat.{mul-le-mul}
 use native.Mathlib.Numerals.{add-one}
 use native.Mathlib.Omega.{arith}
@@ -12,13 +12,11 @@ use Rattle.forward.specs.Sum.{total}
 use Rattle.clamping.specs.Counts.{raised_one, lowered_one, counted}
 use Rattle.clamping.specs.declared.Rule.{Rule}
 use Rattle.clamping.proofs.ByRule.{raised-most, lowered-most}
-use Rattle.refusals.specs.Refusals.{Test, status, written}
-use Rattle.refusals.proofs.Refusals.{kept}
-use Rattle.block.specs.Clamped.{unclamped, block_raised, block_lowered, clamped_answer, counts_of}
+use Rattle.block.specs.Clamped.{block_raised, block_lowered, counts_of}
 use Rattle.block.specs.declared.Clamped.{Clamped}
 use Rattle.block.proofs.Counts.{counted-append, counted-most, length-unclamped}
 use Rattle.plane.specs.Plane.{blocks}
-use Rattle.plane.specs.Scale.{Scale, stored_block, fitted, scale_by}
+use Rattle.plane.specs.Scale.{Scale, stored_block, fitted}
 use Rattle.plane.specs.Counts.{block_numbers, plane_numbers, plane_raised, plane_lowered}
 use Rattle.lists.proofs.Parts.{lent}
 use Rattle.plane.proofs.Scales.{Cropping, lent-stored}
@@ -49,11 +47,14 @@ module _ (s : Scale) (cs : List ℤ) (w h : ℕ) (quant : List ℕ) where
   unfolding plane_lowered plane_numbers block_numbers block_lowered
   lowered-sum = turn-sum lowered_one _ (blocks w * blocks h)
 
+-- a block has at most 64 numbers
+pub few-numbers : {s : Scale} → Cropping s → (quant : List ℕ) (cs : List ℤ) → length (block_numbers s quant cs) ≤ 64
+unfolding block_numbers
+few-numbers {s} cr quant cs = omega (arith, length-unclamped s.size (fitted s quant cs), mul-le-mul cr.side-most cr.side-most)
+
 module _ {s : Scale} (cr : Cropping s) (quant : List ℕ) (cs : List ℤ) where
-  -- a block has at most 64 numbers
   pub numbers-few : (k : ℕ) → length (block_numbers s quant (stored_block cs k)) ≤ 64
-  unfolding block_numbers
-  numbers-few k = omega (arith, length-unclamped s.size (fitted s quant (stored_block cs k)), mul-le-mul cr.side-most cr.side-most)
+  numbers-few k = few-numbers cr quant (stored_block cs k)
 
   -- "They fit": 512 × 512 blocks at most
   few : (n : ℕ) → n ≤ 4096 → blocks n ≤ 512
@@ -98,24 +99,8 @@ module _ {s : Scale} {cs : List ℤ} {quant : List ℕ} {k raised lowered : ℕ}
   sums-few cr c =
       (rw c.up (turn-most raised_one _ raised-most (numbers-few cr quant cs) k), rw c.down (turn-most lowered_one _ lowered-most (numbers-few cr quant cs) k))
 
-  pub sums-all : (w h : ℕ) → Sums s cs quant k raised lowered → k ≡ blocks w * blocks h → record { status = 0; raised = raised; lowered = lowered } ≡ counts_of (plane_numbers s cs w h quant)
+  pub sums-all : (w h : ℕ) → Sums s cs quant k raised lowered → k ≡ blocks w * blocks h → record { raised = raised; lowered = lowered } ≡ counts_of (plane_numbers s cs w h quant)
   unfolding counts_of plane_numbers
   sums-all w h c e =
       let f : ℕ → List ℤ = λ i. block_numbers s quant (stored_block cs i) in
-      λ i. record { status = 0; raised = (c.up ∙ ap (λ (n : ℕ). counted raised_one (in_turn n f)) e) i; lowered = (c.down ∙ ap (λ (n : ℕ). counted lowered_one (in_turn n f)) e) i }
-
--- of equal scales
-pub counts-by : {a b : ℕ} {r : Clamped} (quant : List ℕ) (cs : List ℤ) → a ≡ b → r ≡ counts_of (block_numbers (scale_by a) quant cs) → r ≡ counts_of (block_numbers (scale_by b) quant cs)
-counts-by quant cs e h = rw (← e) h
-
--- ---- the call
-
-pub refused-handed : (ts : List Test) (raised lowered : ℕ) {s : ℕ} → s ≡ status ts → (s ≡ 0 → ⊥) → record { status = s; raised = 0; lowered = 0 } ≡ clamped_answer ts raised lowered
-unfolding clamped_answer
-refused-handed ts raised lowered {s} e h =
-    let none : (n : ℕ) → 0 ≡ written (status ts) n 0 = λ n. kept n 0 h ∙ ap (λ (t : ℕ). written t n 0) e in
-    λ i. record { status = e i; raised = none raised i; lowered = none lowered i }
-
-pub counted-status : (vs : List ℤ) {r : Clamped} → r ≡ counts_of vs → r.status ≡ 0
-unfolding counts_of
-counted-status vs e = ap (λ (r : Clamped). r.status) e
+      λ i. record { raised = (c.up ∙ ap (λ (n : ℕ). counted raised_one (in_turn n f)) e) i; lowered = (c.down ∙ ap (λ (n : ℕ). counted lowered_one (in_turn n f)) e) i }

@@ -11,15 +11,15 @@ use borrow.Author.Tests.{lt-ltb, le-ltb, eqb-true}
 use lib.Dec.{T, ltb}
 use lib.IntN.{ℤ, pos}
 use lib.ListN.{length, get_or, length-append, get_or-append}
-use lib.Seq.{paste, get_or-append-add}
+use lib.Seq.{get_or-append-add}
 use Rattle.lists.specs.Grid.{grid, at, beside}
-use Rattle.lists.proofs.Tab.{Filled, none, same, all, filled, filled-paste, by-elements, tab-ext, tab-get_d}
+use Rattle.lists.proofs.Tab.{Filled, none, same, all, filled, filled-paste, by-elements, tab-get_d}
 use Rattle.lists.proofs.Grid.{column-of, row_of}
 use Rattle.lists.proofs.Parts.{lent, back, length-lent, lent_at, part-back}
 use Rattle.refusals.specs.Refusals.{status, written}
 use Rattle.refusals.proofs.Refusals.{after, passed-all}
 use Rattle.plane.specs.Plane.{blocks}
-use Rattle.plane.specs.Scale.{Scale, full, half, quarter, stored_block}
+use Rattle.plane.specs.Scale.{Scale, full, half, quarter}
 use Rattle.plane.specs.Join.{joined, same_divisors, strip_tests, fitting_tests, join_tests, ShowsBoth, Joinable}
 use Rattle.plane.proofs.Coding.{measured-range}
 use Rattle.plane.proofs.Scales.{cropping-full, cropping-half, cropping-quarter}
@@ -58,35 +58,23 @@ row_room {p} {q} {h} {y} {left} {right} {first} {out} f r =
       (whole ∙ sym (λ i. a i + b i), omega (arith, whole, f.p-most, f.q-most)),
     )
 
--- a row of the left strip and one of the right, block by block: the first n places of both are written
-module _ (left right : List ℤ) where
-  abbrev pub Copied : ℕ → List ℤ → Type 0
-  Copied n out = Filled (λ i. get_or (left ++ right) i (pos 0)) (length left + length right) n out
+-- a row, block by block: the first n places are written
+abbrev pub Copied : List ℤ → ℕ → List ℤ → Type 0
+Copied row n out = Filled (λ i. get_or row i (pos 0)) (length row) n out
 
-  pub copied-left : (k : ℕ) {out new : List ℤ} → Copied (64 * k) out → 64 * k + 64 ≤ length left → new ≡ paste out (64 * k) (stored_block left k) 64 → Copied (64 * (k + 1)) new
-  unfolding stored_block
-  copied-left k {out} s b e =
-      rw e
-      (same _ _ (64 * k + 64) _ _
-      (filled-paste _ (length left + length right) (64 * k) out (stored_block left k) 64 s (omega arith) (tab-ext 64 _ _ (λ n l. sym (get_or-append left right (pos 0) (64 * k + n) (omega arith)))))
-      (omega arith))
+pub copied-none : (row out : List ℤ) → length out ≡ length row → Copied row 0 out
+copied-none row out e = none _ (length row) out e
 
-  module _ (whole : length left % 64 ≡ 0) where
-    abbrev a : ℕ
-    a = length left / 64
+pub copied-more : (row : List ℤ) (k : ℕ) {out new : List ℤ} → Copied row (64 * k) out → 64 * k + 64 ≤ length row → new ≡ lent (64 * k) 64 row → Copied row (64 * (k + 1)) (back (64 * k) 64 out new)
+copied-more row k {out} {new} s b e =
+    let long = length-lent (64 * k) 64 row b in
+    rw (part-back out new (64 * k) 64 (ap length e ∙ long), e)
+    (same _ (length row) (64 * k + 64) (64 * (k + 1)) _
+    (filled-paste _ (length row) (64 * k) out (lent (64 * k) 64 row) 64 s (omega arith) (by-elements 64 _ (pos 0) (lent (64 * k) 64 row) long (λ j c. lent_at (64 * k) 64 row (pos 0) c)))
+    (omega arith))
 
-    pub copied-right : (j : ℕ) {out new : List ℤ} → Copied (64 * (a + j)) out → 64 * j + 64 ≤ length right → new ≡ paste out (64 * (a + j)) (stored_block right j) 64 → Copied (64 * (a + (j + 1))) new
-    unfolding stored_block
-    copied-right j {out} s b e =
-        let at : (n : ℕ) → length left + (64 * j + n) ≡ 64 * (a + j) + n = λ n. omega (arith, whole) in
-        rw e
-        (same _ _ (64 * (a + j) + 64) _ _
-        (filled-paste _ (length left + length right) (64 * (a + j)) out (stored_block right j) 64 s (omega (arith, whole))
-        (tab-ext 64 _ _ (λ n l. sym (get_or-append-add left right (64 * j + n) (pos 0)) ∙ ap (λ (m : ℕ). get_or (left ++ right) m (pos 0)) (at n))))
-        (omega arith))
-
-    pub copied_all : (j : ℕ) {out : List ℤ} → Copied (64 * (a + j)) out → length right ≤ 64 * j → out ≡ left ++ right
-    copied_all j s l = filled s (omega (arith, whole)) ∙ tab-get_d (pos 0) (left ++ right) _ (length-append left right)
+pub copied-all : (row : List ℤ) (k : ℕ) {out : List ℤ} → Copied row (64 * k) out → length row ≤ 64 * k → out ≡ row
+copied-all row k s l = filled s l ∙ tab-get_d (pos 0) row (length row) refl
 
 module _ (p q h : ℕ) (left right : List ℤ) where
   abbrev beside_at : ℕ → ℕ → ℤ

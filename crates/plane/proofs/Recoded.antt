@@ -1,22 +1,19 @@
 -- A plane that was coded and decoded: each sample is one of one block, and where the clamp of half and quarter size changes nothing.
 -- Assumes nothing.
-use mathlib.Core.Path.{◌≡◌, refl, sym, ap, ◌∙◌}
+use mathlib.Core.Path.{◌≡◌, ap, ◌∙◌}
 use mathlib.Core.List.{List}
-use Prim.Native.Nat.{ℕ, ◌+◌, ◌-◌, ◌*◌, ◌/◌, ◌%◌, ◌≤◌, ◌<◌, min}
+use Prim.Native.Nat.{ℕ, ◌+◌, ◌-◌, ◌*◌, ◌/◌, ◌%◌, ◌<◌, min}
 use native.Mathlib.Omega.{arith}
-use lib.ListN.{length, get_or}
 use lib.IntN.{ℤ, pos, negsuc}
 use Rattle.integers.specs.Fits16.{Fits16}
-use Rattle.lists.specs.Tab.{tab}
 use Rattle.lists.specs.Grid.{grid, at, tiled}
-use Rattle.lists.specs.Every.{Every}
-use Rattle.lists.proofs.Tab.{get_d-tab, tab-ext}
+use Rattle.lists.proofs.Tab.{tab-ext}
 use Rattle.lists.proofs.Grid.{index, column-of, row_of, grid-at, grid-ext}
 use Rattle.clamping.specs.Clamping.{centered}
 use Rattle.forward.specs.Canonical.{coefficients_at, coefficients}
-use Rattle.stored_blocks.specs.Dequantize.{product, dequantized}
+use Rattle.stored_blocks.specs.Dequantize.{product}
 use Rattle.plane.specs.Plane.{blocks, sample_at, block_at, block_of, plane_coefficients}
-use Rattle.plane.specs.Scale.{Scale, unchanged, clamped16, full, cropped, stored_block, fitted, block_samples, plane_samples, recoded}
+use Rattle.plane.specs.Scale.{Scale, unchanged, clamped16, cropped, stored_block, fitted, block_samples, plane_samples, recoded}
 use Rattle.plane.proofs.Scales.{Cropping}
 
 -- ---- the coefficients of a plane, block by block

@@ -1,6 +1,6 @@
 -- The three scales: how a cropped picture and its blocks lie, which coefficients a block has, and how many samples.
 -- Assumes nothing.
-use mathlib.Core.Path.{◌≡◌, refl}
+use mathlib.Core.Path.{◌≡◌}
 use mathlib.Core.List.{List}
 use Prim.Native.Nat.{ℕ, ◌+◌, ◌*◌, ◌/◌, ◌≤◌, ◌<◌}
 use native.Mathlib.Omega.{arith}
@@ -13,8 +13,9 @@ use Rattle.clamping.specs.Clamping.{centered}
 use Rattle.passes.specs.Passes.{eight, four, two}
 use Rattle.block.specs.Block.{row_samples, samples, block}
 use Rattle.plane.specs.Plane.{blocks}
-use Rattle.plane.specs.Scale.{Scale, clamped16, full, half, quarter, cropped, stored_block, block_samples, scale_by}
-use Rattle.plane.specs.Placing.{Reduction, by-1, by_2, by_4, Begins, Placed}
+use Rattle.plane.specs.Scale.{Scale, clamped16, full, half, quarter, cropped, stored_block, block_samples, scale_of}
+use Rattle.plane.specs.declared.decode.Scale.{Scale as CallScale}
+use Rattle.plane.specs.declared.decode.Scale.TheVariants.{Full, Half, Quarter}
 
 -- what the laws ask of a scale: a sample of the cropped picture lies in a block, and each block begins within that picture; and that the
 -- picture's measures are "rounded up"
@@ -75,36 +76,10 @@ cropping-quarter =
       wide = λ a n. omega arith;
     }
 
-pub cropping : {by : ℕ} → Reduction by → Cropping (scale_by by)
-unfolding scale_by
-cropping by-1 = cropping-full
-cropping by_2 = cropping-half
-cropping by_4 = cropping-quarter
-
--- what a call divides by is what its scale does
-pub reduction-is : {by : ℕ} → Reduction by → by ≡ (scale_by by).by
-unfolding scale_by
-reduction-is by-1 = refl
-reduction-is by_2 = refl
-reduction-is by_4 = refl
-
-pub reduction-range : {by : ℕ} → Reduction by → (1 ≤ by) × (by ≤ 4)
-reduction-range by-1 = omega arith
-reduction-range by_2 = omega arith
-reduction-range by_4 = omega arith
-
--- the steps of equal numbers
-pub begins-by : {a b w h x y : ℕ} {out : List ℕ} → a ≡ b → Begins (scale_by a).size.side w h x y out → Begins (scale_by b).size.side w h x y out
-begins-by e p = rw (← e) p
-
-pub placed_by : {a b w h x y : ℕ} {old new : List ℕ} (quant : List ℕ) (cs : List ℤ) → a ≡ b → Placed (scale_by a).size.side w h x y (block_samples (scale_by a) quant cs) old new → Placed (scale_by b).size.side w h x y (block_samples (scale_by b) quant cs) old new
-placed_by quant cs e p = rw (← e) p
-
--- the third of the three
-pub reduction-else : {by : ℕ} → Reduction by → (by ≡ 1 → ⊥) → (by ≡ 2 → ⊥) → by ≡ 4
-reduction-else by-1 h k = absurd (h refl)
-reduction-else by_2 h k = absurd (k refl)
-reduction-else by_4 h k = refl
+pub cropping : (k : CallScale) → Cropping (scale_of k)
+cropping Full = cropping-full
+cropping Half = cropping-half
+cropping Quarter = cropping-quarter
 
 -- at full size the picture is the plane
 pub cropped-full : (n : ℕ) → cropped full n ≡ n

@@ -4,12 +4,6 @@ use Rattle.lists.specs.Grid.{at}
 use Rattle.plane.specs.Plane.{blocks}
 use Rattle.plane.specs.Scale.{Scale, cropped}
 
--- what a call divides the width and height by
-pub data Reduction : ℕ → Type 0 where
-  by-1 : Reduction 1
-  by_2 : Reduction 2
-  by_4 : Reduction 4
-
 -- coefficients, a table and an output that the call of a scale does not refuse
 pub record StoredOf (s : Scale) (cs : List ℤ) (w h : ℕ) (quant out : List ℕ) : Type 0 where
   pub w-some : 1 ≤ w

@@ -32,6 +32,10 @@ measured n = leb 1 n && leb n 4096
 abbrev pub size_tests : ℕ → ℕ → List Test
 size_tests w h = 8 unless measured w ∷ 8 unless measured h ∷ []
 
+-- those of the plane alone
+abbrev pub plane_tests : List ℕ → ℕ → ℕ → List Test
+plane_tests samples w h = 8 unless measured w ∷ 8 unless measured h ∷ 9 unless samples of (w * h) ∷ []
+
 -- "Order: 8, 9, 2, 3"; "9, samples not width × height in number"; the output's "length is 64 per block (else 3)"
 unfoldable pub forward_tests : List ℕ → ℕ → ℕ → List ℕ → List ℤ → List Test
 forward_tests samples w h quant out = size_tests w h ++ 9 unless samples of (w * h) ∷ 2 unless quant of 64 ∷ 3 unless out of (64 * (blocks w * blocks h)) ∷ []

@@ -1,5 +1,5 @@
 -- Document 02, card 2: "three calls, the plane inverse with 8, 4 or 2 samples per block side".
-use Rattle.std.specs.Prelude.{cond, List, [], ◌∷◌, ◌++◌, ℕ, ◌+◌, ◌-◌, ◌*◌, ◌/◌, eqb, ℤ, pos}
+use Rattle.std.specs.Prelude.{List, [], ◌∷◌, ◌++◌, ℕ, ◌+◌, ◌-◌, ◌*◌, ◌/◌, ℤ, pos}
 use Rattle.lists.specs.Tab.{tab}
 use Rattle.lists.specs.Grid.{grid, at, tiled}
 use Rattle.refusals.specs.Refusals.{Test, ◌unless◌, ◌of◌}
@@ -7,6 +7,8 @@ use Rattle.clamping.specs.Clamping.{centered}
 use Rattle.passes.specs.Passes.{Size, eight, four, two}
 use Rattle.block.specs.Block.{block}
 use Rattle.stored_blocks.specs.Dequantize.{product}
+use Rattle.plane.specs.declared.decode.Scale.{Scale as CallScale}
+use Rattle.plane.specs.declared.decode.Scale.TheVariants.{Full, Half, Quarter}
 use Rattle.plane.specs.Plane.{blocks, plane_coefficients, size_tests}
 
 -- what differs between the three calls: the size of the inverse block, by what the width and height are divided, and what becomes of a
@@ -60,6 +62,8 @@ plane_inverse_tests s cs w h quant out = size_tests w h ++ 1 unless cs of (64 * 
 unfoldable pub recoded : Scale → List ℕ → ℕ → ℕ → List ℕ → List ℕ
 recoded s samples w h quant = plane_samples s (plane_coefficients samples w h quant) w h quant
 
--- the scale of a call, by what it divides the width and height by
-unfoldable pub scale_by : ℕ → Scale
-scale_by by = cond (eqb by 1) full (cond (eqb by 2) half quarter)
+-- the scale of a call
+abbrev pub scale_of : CallScale → Scale
+scale_of Full = full
+scale_of Half = half
+scale_of Quarter = quarter

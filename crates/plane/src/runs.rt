@@ -2,16 +2,14 @@
 ghost use Rattle.std.specs.Prelude.{◌≡◌, ◌+◌, ◌≤◌, length, drop};
 ghost use Rattle.std.proofs.Math.Seq.{paste};
 
-// Copies n samples from place `from` on to place `at` and on; all other places keep their content. Where n is a literal the compiler makes
-// one move of the loop.
+// Copies n samples from place `from` on to place `at` and on; all other places keep their content.
+// Where n is a literal the compiler makes one move of it.
 pub fn copy_run(samples: &[u8], from: usize, n: usize, out: &mut [u8], at: usize)
     requires n_in_bounds { from + n ≤ length samples.now }
     requires n_in_bounds_2 { at + n ≤ length out.old }
     ensures { out.new ≡ paste out.old at (drop from samples.now) n }
 {
-    let mut i = 0;
-    while i < n {
-        out[at + i] = samples[from + i];
-        i += 1;
-    }
+    let to = at + n;
+    let until = from + n;
+    out[at..to].copy_from_slice(&samples[from..until]);
 }

@@ -19,20 +19,7 @@ struct Division {
 pub fn divisor(quantizer: u16) -> u32
     ensures { result ≡ divisor_of quantizer }
 {
-    if quantizer == 0 {
-        return 1;
-    }
-    quantizer as u32
-}
-
-pub fn unsigned_abs(x: i64) -> u64
-    ensures { result ≡ nat_abs x }
-{
-    if x >= 0 {
-        x as u64
-    } else {
-        ((-1 - x) as u64) + 1
-    }
+    u32::from(quantizer.max(1))
 }
 
 fn scaled_divisor(quantizer: u16) -> u64
@@ -62,10 +49,7 @@ fn round_by_remainder(division: Division, divisor: u64) -> u32
     requires { (division.quotient < 2 ^ 15) × (division.remainder < 2 ^ 48) }
     ensures { result ≡ division.quotient + cond (leb divisor (2 * division.remainder)) 1 0 }
 {
-    if 2 * division.remainder >= divisor {
-        return division.quotient + 1;
-    }
-    division.quotient
+    division.quotient + u32::from(2 * division.remainder >= divisor)
 }
 
 fn with_sign(scaled: i64, size: u32) -> i16
@@ -73,10 +57,7 @@ fn with_sign(scaled: i64, size: u32) -> i16
     ensures { result ≡ with_sign scaled size }
 {
     let value = size as i16;
-    if scaled < 0 {
-        return 0 - value;
-    }
-    value
+    if scaled < 0 { -value } else { value }
 }
 
 pub fn quantize(scaled: i64, quantizer: u16) -> i16
@@ -85,7 +66,7 @@ pub fn quantize(scaled: i64, quantizer: u16) -> i16
     ensures result_bound { nat_abs result < 2 ^ 15 }
 {
     let divisor = scaled_divisor(quantizer);
-    let division = divide(unsigned_abs(scaled), divisor);
+    let division = divide(scaled.unsigned_abs(), divisor);
     let size = round_by_remainder(division, divisor);
     with_sign(scaled, size)
 }

@@ -7,13 +7,21 @@ use Prim.Native.Nat.{ℕ, ◌*◌, ◌≤◌}
 use borrow.Author.Tests.{le-leb}
 use lib.IntN.{ℤ}
 use lib.ListN.{length, replicate}
-use Rattle.refusals.specs.Refusals.{status, written}
+use Rattle.std.specs.Prelude.{Result, Ok, Err}
+use Rattle.refusals.specs.declared.Refusal.{Refusal}
+use Rattle.refusals.specs.Refusals.{Test, status, written}
+use Rattle.refusals.specs.Numbers.{Answer, answer, status_of, told}
 use Rattle.refusals.proofs.Refusals.{has, ◌then◌, left}
 use Rattle.plane.specs.Plane.{blocks, measured, plane_coefficients, forward_tests}
 use Rattle.plane.specs.Scale.{full, plane_samples, recoded, plane_inverse_tests}
 use Rattle.plane.specs.Ready.{PlaneOf}
 use Rattle.plane.proofs.Scales.{cropped-full}
 use Rattle.recode_pgm.specs.Recode.{recoded_by_one}
+
+-- the status of a call by its tests
+pub answer-status : {A : Type 0} (ts : List Test) (value zero : A) (r : Result A Refusal) → told zero r ≡ answer ts value zero → status_of r ≡ status ts
+answer-status ts value zero (Ok x) e = ap (λ (a : Answer _). a.status) e
+answer-status ts value zero (Err d) e = ap (λ (a : Answer _). a.status) e
 
 in-range : (n : ℕ) → 1 ≤ n → n ≤ 4096 → measured n ≡ true
 unfolding measured

@@ -12,9 +12,11 @@ mod strip;
 
 ghost use Rattle.std.specs.Prelude.{◌≡◌, List, ℕ, ◌*◌, ◌≤◌, ◌<◌, length};
 ghost use Rattle.pgm.specs.Header.{header_of};
+ghost use Rattle.pgm.specs.Reader.{told};
 ghost use Rattle.plane.specs.Strips.{strip_rows};
 
-use pgm::{Answer, LIMIT, Reader, Step};
+use pgm::{Header, LIMIT, Reader, Step};
+use refusals::Refusal;
 use std::io;
 use std::io::Read;
 use streams::{fail, read_full};
@@ -23,61 +25,32 @@ use strip::recode_strip;
 // Eight rows of the greatest width.
 const STRIP: usize = 32768;
 
-fn refuse(rt: &impl Eprint, number: u32) -> io::Result<()> {
-    eprintln!(rt; "refused {number}")
+fn refuse(rt: &impl Eprint, refusal: Refusal) -> io::Result<()> {
+    eprintln!(rt; "{refusal}")
 }
 
 // The answer to the bytes that were read, whatever they are; a failed read counts as the end. The
 // loop is bounded by the limit, and the reader refuses at it.
-fn read_header(input: &mut impl Read) -> Answer
-    ensures { (input : List ℕ) × (result ≡ header_of input) }
+fn read_header(input: &mut impl Read) -> Result<Header, Refusal>
+    ensures { (input : List ℕ) × (told result ≡ header_of input) }
 {
     let mut reader = Reader::new();
     for _ in 0..LIMIT {
         let mut byte = [0u8; 1];
         if read_full(input, &mut byte) == 0 {
-            return Answer::Refused(10);
+            return Err(Refusal::Picture);
         }
-        match reader.step(byte[0]) {
+        match reader.step(byte[0])? {
             Step::More(r) => reader = r,
-            Step::Done(a) => return a,
+            Step::Done(header) => return Ok(header),
         }
     }
-    Answer::Refused(10)
-}
-
-fn write_header(rt: &impl Print, width: usize, height: usize) -> io::Result<()> {
-    println!(rt; "P5\n{width} {height}\n255")
-}
-
-fn write_failed(rt: &(impl Eprint + Alloc), error: &io::Error) -> io::Result<()> {
-    fail(rt, "recode_pgm: standard output", error)
+    Err(Refusal::Picture)
 }
 
 // Reads a strip, recodes it and writes it. Where the raster ends before, it says so and answers
 // false.
 fn copy_strip(
-    rt: &(impl Print + Eprint),
-    input: &mut impl Read,
-    width: usize,
-    rows: usize,
-    samples: &mut [u8],
-    out: &mut [u8],
-) -> io::Result<bool>
-    requires le_width { (1 ≤ width) × (width ≤ 4096) }
-    requires le_rows { (1 ≤ rows) × (rows ≤ 8) }
-    requires samples_len { (length samples.old ≡ width * rows) × (length out.old ≡ width * rows) }
-{
-    if read_full(input, samples) < samples.len() {
-        refuse(rt, 10)?;
-        return Ok(false);
-    }
-    recode_strip(samples, width, rows, out);
-    rt.write_all(out)?;
-    Ok(true)
-}
-
-fn copy_rows(
     rt: &(impl Print + Eprint),
     input: &mut impl Read,
     width: usize,
@@ -89,20 +62,24 @@ fn copy_rows(
     let n = width * rows;
     let mut samples = [0u8; STRIP];
     let mut out = [0u8; STRIP];
-    copy_strip(rt, input, width, rows, &mut samples[..n], &mut out[..n])
+    if read_full(input, &mut samples[..n]) < n {
+        refuse(rt, Refusal::Picture)?;
+        return Ok(false);
+    }
+    recode_strip(&samples[..n], width, rows, &mut out[..n]);
+    rt.write_all(&out[..n])?;
+    Ok(true)
 }
 
 // The rows of strip s: the last strip may be lower.
+#[tactic(auto, unfolding(plane::specs::Strips::strip_rows))]
 fn strip_rows(height: usize, s: usize) -> usize
     requires { (8 * s < height) × (height ≤ 4096) }
     ensures value { result ≡ strip_rows height s }
     ensures lower_bound { (1 ≤ result) × (result ≤ 8) }
 {
     let left = height - 8 * s;
-    if left < 8 {
-        return left;
-    }
-    8
+    left.min(8)
 }
 
 fn copy_raster(
@@ -115,7 +92,7 @@ fn copy_raster(
     requires height_bound { height ≤ 4096 }
 {
     for s in 0..(height + 7) / 8 {
-        if !copy_rows(rt, input, width, strip_rows(height, s))? {
+        if !copy_strip(rt, input, width, strip_rows(height, s))? {
             break;
         }
     }
@@ -126,21 +103,20 @@ fn copy_raster(
 fn copy_picture(rt: &(impl Input + Print + Eprint)) -> io::Result<()> {
     let mut input = rt.reader();
     match read_header(&mut input) {
-        Answer::Header {
-            width,
-            height,
-            length: _,
-        } => {
-            write_header(rt, width, height)?;
+        Ok(
+            Header {
+                width,
+                height,
+                length: _,
+            },
+        ) => {
+            println!(rt; "P5\n{width} {height}\n255")?;
             copy_raster(rt, &mut input, width, height)
         }
-        Answer::Refused(number) => refuse(rt, number),
+        Err(refusal) => refuse(rt, refusal),
     }
 }
 
 fn main(rt: HostRuntime) -> io::Result<()> {
-    match copy_picture(&rt) {
-        Ok(()) => Ok(()),
-        Err(error) => write_failed(&rt, &error),
-    }
+    copy_picture(&rt).or_else(|error| fail(&rt, "recode_pgm: standard output", &error))
 }

@@ -22,8 +22,8 @@ fn recode_through(
     ensures { out.new ≡ recoded_by_one samples.now width rows }
 {
     let ones = [1u8; 64];
-    fdct_quantize_plane(samples, width, rows, &ones, coefficients);
-    islow_plane(coefficients, width, rows, &ones, out);
+    let _ = fdct_quantize_plane(samples, width, rows, &ones, coefficients);
+    let _ = islow_plane(coefficients, width, rows, &ones, out);
 }
 
 pub fn recode_strip(samples: &[u8], width: usize, rows: usize, out: &mut [u8])

@@ -1,85 +1,79 @@
-// The blocks: 64 coefficients, a quantizer table or 64 coefficients more where a function takes
-// them; the answer.
-ghost use Rattle.std.specs.Prelude.{◌≤◌};
-
-use crate::decode::{ROOM, block_i16, block_i32, bytes};
-use crate::encode::{Answer, bytes_i32, bytes_u16, number};
+// The inverse block entries: 64 coefficients; the samples.
+use crate::file::{Part, replay};
+use crate::numbers::{accepted, numbers, put_each};
 use block::Clamped;
+use refusals::Refusal;
+use std::io;
+use std::rt::Files;
 
-fn narrow(function: usize, input: &[i16], output: &mut [u8]) -> Clamped {
-    match function {
-        22 | 41 => idct_8x8::islow_block(input, output),
-        24 => idct_8x8::islow_block_top_half(input, output),
-        26 => idct_reduced::islow_block_4x4(input, output),
-        _ => idct_reduced::islow_block_2x2(input, output),
-    }
-}
-
-fn deep(function: usize, input: &[i16], output: &mut [u16]) -> u32 {
-    match function {
-        28 => idct_12bit::islow_block_12bit(input, output),
-        29 => idct_12bit::islow_block_12bit_4x4(input, output),
-        _ => idct_12bit::islow_block_12bit_2x2(input, output),
-    }
-}
-
-fn wide(function: usize, input: &[i32], output: &mut [u8]) -> Clamped {
-    match function {
-        23 => idct_8x8::islow_block_i32(input, output),
-        _ => idct_8x8::islow_block_top_half_i32(input, output),
-    }
-}
-
-pub fn narrow_block(function: usize, case: &[u8; ROOM], size: usize) -> Answer
-    requires { size ≤ 64 }
+pub fn replay_narrow<O: Part, F: Fn(&[i16], &mut [u8]) -> Result<Clamped, Refusal>>(
+    rt: &(impl Files + Print + Eprint + Alloc),
+    name: &str,
+    call: F,
+) -> io::Result<()>
+    requires { F.IsAlwaysCallable call }
 {
-    let input = block_i16(case, 0);
-    let mut bytes = [0u8; ROOM];
-    let got = narrow(function, &input, &mut bytes[0..size]);
-    Answer {
-        status: got.status,
-        size,
-        bytes,
-    }
+    replay(rt, name, |case: &[u8; 128]| {
+        let input: [i16; 64] = numbers(case.as_chunks().0, i16::from_le_bytes);
+        let mut samples = O::default();
+        let outcome = call(&input, samples.bytes_mut());
+        accepted(outcome, samples)
+    })
 }
 
-pub fn deep_block(function: usize, case: &[u8; ROOM], samples: usize) -> Answer
-    requires { samples ≤ 64 }
+fn replay_wide<F: Fn(&[i32], &mut [u8]) -> Result<Clamped, Refusal>>(
+    rt: &(impl Files + Print + Eprint + Alloc),
+    name: &str,
+    call: F,
+) -> io::Result<()>
+    requires { F.IsAlwaysCallable call }
 {
-    let input = block_i16(case, 0);
-    let mut output = [0u16; 64];
-    let status = deep(function, &input, &mut output[0..samples]);
-    bytes_u16(status, 2 * samples, &output)
+    replay(rt, name, |case: &[u8; 256]| {
+        let input: [i32; 64] = numbers(case.as_chunks().0, i32::from_le_bytes);
+        let mut samples = [0u8; 64];
+        let outcome = call(&input, &mut samples);
+        accepted(outcome, samples)
+    })
 }
 
-pub fn wide_block(function: usize, case: &[u8; ROOM]) -> Answer {
-    let input = block_i32(case);
-    let mut bytes = [0u8; ROOM];
-    let got = wide(function, &input, &mut bytes[0..64]);
-    Answer {
-        status: got.status,
-        size: 64,
-        bytes,
-    }
+fn replay_12bit<O: Part, F: Fn(&[i16], &mut [u16]) -> Result<(), Refusal>>(
+    rt: &(impl Files + Print + Eprint + Alloc),
+    name: &str,
+    call: F,
+) -> io::Result<()>
+    requires { F.IsAlwaysCallable call }
+{
+    replay(rt, name, |case: &[u8; 128]| {
+        let input: [i16; 64] = numbers(case.as_chunks().0, i16::from_le_bytes);
+        let mut answer = O::default();
+        let places = answer.bytes_mut().as_chunks_mut().0;
+        let mut samples = [0u16; 64];
+        let outcome = call(&input, &mut samples[..places.len().min(64)]);
+        put_each(places, &samples, u16::to_le_bytes);
+        accepted(outcome, answer)
+    })
 }
 
-pub fn dequantize(case: &[u8; ROOM]) -> Answer {
-    let input = block_i16(case, 0);
-    let mut output = [0i32; 64];
-    let status = stored_blocks::dequantize(&input, bytes(case, 128), &mut output);
-    bytes_i32(status, &output)
-}
-
-// A record has 1 for yes, here and in `same`.
-pub fn screen(case: &[u8; ROOM]) -> Answer {
-    let input = block_i16(case, 0);
-    let got = stored_blocks::screen(&input, bytes(case, 128));
-    number(got.status, 1, got.yes as u64)
-}
-
-pub fn same(case: &[u8; ROOM]) -> Answer {
-    let input = block_i16(case, 0);
-    let other = block_i16(case, 128);
-    let got = stored_blocks::same(&input, &other);
-    number(got.status, 1, got.yes as u64)
+pub fn replay_all(rt: &(impl Files + Print + Eprint + Alloc)) -> io::Result<()> {
+    replay_narrow::<[u8; 64], _>(rt, "islow_block", idct_8x8::islow_block)?;
+    replay_wide(rt, "islow_block_i32", idct_8x8::islow_block_i32)?;
+    replay_narrow::<[u8; 64], _>(rt, "islow_block_top_half", idct_8x8::islow_block_top_half)?;
+    replay_wide(
+        rt,
+        "islow_block_top_half_i32",
+        idct_8x8::islow_block_top_half_i32,
+    )?;
+    replay_narrow::<[u8; 16], _>(rt, "islow_block_4x4", idct_reduced::islow_block_4x4)?;
+    replay_narrow::<[u8; 4], _>(rt, "islow_block_2x2", idct_reduced::islow_block_2x2)?;
+    replay_12bit::<[u8; 128], _>(rt, "islow_block_12bit", idct_12bit::islow_block_12bit)?;
+    replay_12bit::<[u8; 32], _>(
+        rt,
+        "islow_block_12bit_4x4",
+        idct_12bit::islow_block_12bit_4x4,
+    )?;
+    replay_12bit::<[u8; 8], _>(
+        rt,
+        "islow_block_12bit_2x2",
+        idct_12bit::islow_block_12bit_2x2,
+    )
 }

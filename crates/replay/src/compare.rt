@@ -1,22 +1,15 @@
 // The one place where a function's answer meets the recorded one. Both are bytes as a record has
 // them, so one comparison serves every type of answer, and no fault in how inputs are decoded can
 // hide a difference.
-ghost use Rattle.std.specs.Prelude.{◌≡◌, true};
+ghost use Rattle.std.specs.Prelude.{◌≡◌, true, option_map};
 ghost use Rattle.replay.specs.Agrees.{Agrees};
 
-use crate::decode::Part;
-use crate::encode::Answer;
-
-pub fn agrees(recorded: Part, answer: Answer) -> bool
-    ensures { (result ≡ true → Agrees recorded answer) × (Agrees recorded answer → result ≡ true) }
+pub fn agrees(recorded: &[u8], answer: Option<&[u8]>) -> bool
+    ensures sound { result ≡ true → Agrees recorded.now (option_map (λ given. given.now) answer.entry) }
+    ensures complete { Agrees recorded.now (option_map (λ given. given.now) answer.entry) → result ≡ true }
 {
-    if answer.status != 0 {
-        return false;
+    match answer {
+        Some(given) => recorded == given,
+        None => false,
     }
-    if recorded.got != answer.size {
-        return false;
-    }
-    let expected = recorded.bytes;
-    let given = answer.bytes;
-    expected == given
 }

@@ -1,56 +1,59 @@
 // The guarded quantizer and its divisors: 64 samples, 64 quantizers, and the divisors or the table
 // that they are made from; the record of DC, AC places and bitmap. The Rust's record has no
 // divisors: those are held to the table.
-use crate::decode::{ROOM, block_f64, bytes};
-use crate::encode::{Answer, bits_i16, bytes_f64, number, put_i16, put_number};
+use crate::file::replay;
+use crate::numbers::{bytes_of_f64, f64_of, numbers, put_each};
 use guarded_quantizer::{QuantizationDivisors, QuantizedBlock};
+use std::io;
+use std::rt::Files;
 
-fn record(status: u32, block: QuantizedBlock) -> Answer {
-    let ac = block.ac_coefficients;
-    let dc = put_number([0u8; ROOM], 0, bits_i16(block.dc));
-    Answer {
-        status,
-        size: 138,
-        bytes: put_number(put_i16(dc, 2, &ac), 130, block.nonzero_ac),
+fn record(block: &QuantizedBlock) -> [u8; 138] {
+    let mut record = [0u8; 138];
+    record[..2].copy_from_slice(&block.dc.to_le_bytes());
+    put_each(
+        record[2..130].as_chunks_mut().0,
+        &block.ac_coefficients,
+        i16::to_le_bytes,
+    );
+    record[130..].copy_from_slice(&block.nonzero_ac.to_le_bytes());
+    record
+}
+
+// None too where the record does not carry the table handed over.
+fn quantized(samples: &[u8], quant: &[u8], divisors: QuantizationDivisors) -> Option<[u8; 138]> {
+    let block = transform::fdct_quantize(samples, quant, divisors).ok()?;
+    if block.divisors.as_slice() == quant {
+        Some(record(&block))
+    } else {
+        None
     }
 }
 
-// The status; 99, which no record has, where a record does not carry the table handed over.
-fn with_table(status: u32, divisors: &[u8; 64], quant: &[u8]) -> u32 {
-    if divisors.as_slice() == quant {
-        return status;
-    }
-    99
+// The divisors of a table.
+fn divisors_of(quant: &[u8]) -> Option<QuantizationDivisors> {
+    fdct_f64::quantization_divisors(quant).ok()
 }
 
-fn quantized(case: &[u8; ROOM], divisors: QuantizationDivisors) -> Answer {
-    let quant = bytes(case, 64);
-    let got = transform::fdct_quantize(bytes(case, 0), quant, divisors);
-    let block = got.block;
-    let table = block.divisors;
-    record(with_table(got.status, &table, quant), block)
-}
-
-pub fn quantization_divisors(case: &[u8; ROOM]) -> Answer {
-    let made = fdct_f64::quantization_divisors(bytes(case, 0));
-    let divisors = made.divisors;
-    let reciprocals = divisors.reciprocals;
-    bytes_f64(made.status, &reciprocals)
-}
-
-pub fn fdct_quantize(case: &[u8; ROOM]) -> Answer {
-    let made = fdct_f64::quantization_divisors(bytes(case, 128));
-    if made.status != 0 {
-        return number(made.status, 138, 0);
-    }
-    quantized(case, made.divisors)
-}
-
-pub fn fdct_quantize_handed(case: &[u8; ROOM]) -> Answer {
-    quantized(
-        case,
-        QuantizationDivisors {
-            reciprocals: block_f64(case, 128),
-        },
-    )
+pub fn replay_all(rt: &(impl Files + Print + Eprint + Alloc)) -> io::Result<()> {
+    replay(rt, "quantization_divisors", |case: &[u8; 64]| {
+        let divisors = divisors_of(case)?;
+        let mut answer = [0u8; 512];
+        put_each(
+            answer.as_chunks_mut().0,
+            &divisors.reciprocals,
+            bytes_of_f64,
+        );
+        Some(answer)
+    })?;
+    replay(rt, "transform_fdct_quantize", |case: &[u8; 192]| {
+        quantized(&case[..64], &case[64..128], divisors_of(&case[128..])?)
+    })?;
+    replay(rt, "transform_fdct_quantize_handed", |case: &[u8; 640]| {
+        let reciprocals = numbers(case[128..].as_chunks().0, f64_of);
+        quantized(
+            &case[..64],
+            &case[64..128],
+            QuantizationDivisors { reciprocals },
+        )
+    })
 }

@@ -1,19 +1,25 @@
 // Scaling and clamping: the arguments; the answer.
-use crate::decode::{ROOM, i32_at, i64_at};
-use crate::encode::{Answer, bits_i32, number};
+use crate::file::replay;
+use crate::numbers::numbers;
+use std::io;
+use std::rt::Files;
 
-// The oracle is asked only for shifts that it takes.
-pub fn descale(case: &[u8; ROOM]) -> Answer {
-    let got = scaling::descale(i32_at(case, 0), i32_at(case, 4));
-    number(got.status, 4, bits_i32(got.value))
-}
-
-pub fn scaled(function: usize, case: &[u8; ROOM]) -> Answer {
-    let value = i32_at(case, 0);
-    match function {
-        7 => number(0, 4, bits_i32(scaling::islow_dc(value))),
-        8 => number(0, 1, clamping::sample_u8(value).sample as u64),
-        9 => number(0, 4, bits_i32(clamping::sample_centered(value))),
-        _ => number(0, 2, clamping::sample_12bit(i64_at(case, 0)) as u64),
-    }
+// The oracle is asked only for shifts that `descale` takes.
+pub fn replay_all(rt: &(impl Files + Print + Eprint + Alloc)) -> io::Result<()> {
+    replay(rt, "descale", |case: &[u8; 8]| {
+        let [value, shift]: [i32; 2] = numbers(case.as_chunks().0, i32::from_le_bytes);
+        scaling::descale(value, shift).ok().map(i32::to_le_bytes)
+    })?;
+    replay(rt, "islow_dc", |case: &[u8; 4]| {
+        Some(scaling::islow_dc(i32::from_le_bytes(*case)).to_le_bytes())
+    })?;
+    replay(rt, "sample_u8", |case: &[u8; 4]| {
+        Some([clamping::sample_u8(i32::from_le_bytes(*case)).sample])
+    })?;
+    replay(rt, "sample_centered", |case: &[u8; 4]| {
+        Some(clamping::sample_centered(i32::from_le_bytes(*case)).to_le_bytes())
+    })?;
+    replay(rt, "sample_12bit", |case: &[u8; 8]| {
+        Some(clamping::sample_12bit(i64::from_le_bytes(*case)).to_le_bytes())
+    })
 }

@@ -1,25 +1,43 @@
 // The wrapping operations: a, b; the answer.
-use crate::decode::{ROOM, i32_at, i64_at};
-use crate::encode::{Answer, bits_i32, number};
+use crate::file::replay;
+use crate::numbers::numbers;
+use std::io;
+use std::rt::Files;
+use wrapping::Wrapping;
 
-pub fn wrapped(function: usize, case: &[u8; ROOM]) -> Answer {
-    let a = i32_at(case, 0);
-    let b = i32_at(case, 4);
-    let got = match function {
-        0 => wrapping::wrapping_add_i32(a, b),
-        1 => wrapping::wrapping_sub_i32(a, b),
-        _ => wrapping::wrapping_mul_i32(a, b),
-    };
-    number(0, 4, bits_i32(got))
+// form kept, here and in the next: the bound of a closure cannot name a const parameter, so one
+// function for both widths needs a trait with an impl for each, and is no shorter.
+fn replay_i32<F: Fn(i32, i32) -> i32>(
+    rt: &(impl Files + Print + Eprint + Alloc),
+    name: &str,
+    call: F,
+) -> io::Result<()>
+    requires { F.IsAlwaysCallable call }
+{
+    replay(rt, name, |case: &[u8; 8]| {
+        let [a, b]: [i32; 2] = numbers(case.as_chunks().0, i32::from_le_bytes);
+        Some(call(a, b).to_le_bytes())
+    })
 }
 
-pub fn wrapped_i64(function: usize, case: &[u8; ROOM]) -> Answer {
-    let a = i64_at(case, 0);
-    let b = i64_at(case, 8);
-    let got = match function {
-        3 => wrapping::wrapping_add_i64(a, b),
-        4 => wrapping::wrapping_sub_i64(a, b),
-        _ => wrapping::wrapping_mul_i64(a, b),
-    };
-    number(0, 8, wrapping::bits::to_bits_i64(got))
+fn replay_i64<F: Fn(i64, i64) -> i64>(
+    rt: &(impl Files + Print + Eprint + Alloc),
+    name: &str,
+    call: F,
+) -> io::Result<()>
+    requires { F.IsAlwaysCallable call }
+{
+    replay(rt, name, |case: &[u8; 16]| {
+        let [a, b]: [i64; 2] = numbers(case.as_chunks().0, i64::from_le_bytes);
+        Some(call(a, b).to_le_bytes())
+    })
+}
+
+pub fn replay_all(rt: &(impl Files + Print + Eprint + Alloc)) -> io::Result<()> {
+    replay_i32(rt, "wrapping_add_i32", <i32 as Wrapping>::add)?;
+    replay_i32(rt, "wrapping_sub_i32", <i32 as Wrapping>::sub)?;
+    replay_i32(rt, "wrapping_mul_i32", <i32 as Wrapping>::mul)?;
+    replay_i64(rt, "wrapping_add_i64", <i64 as Wrapping>::add)?;
+    replay_i64(rt, "wrapping_sub_i64", <i64 as Wrapping>::sub)?;
+    replay_i64(rt, "wrapping_mul_i64", <i64 as Wrapping>::mul)
 }

@@ -6,20 +6,22 @@
 
 pub mod twelve_bit;
 
-ghost use Rattle.std.specs.Prelude.{◌≡◌, length};
+ghost use Rattle.std.specs.Prelude.{◌≡◌, false, length};
 ghost use Rattle.integers.specs.Fits16.{Fits16};
 ghost use Rattle.lists.specs.Every.{Every};
 ghost use Rattle.refusals.specs.Refusals.{status, written};
+ghost use Rattle.refusals.specs.Numbers.{status_of, told};
 ghost use Rattle.forward.specs.Canonical.{coefficients};
 ghost use Rattle.bounds.specs.Demand3.{products, decoded};
 ghost use Rattle.bounds.specs.Calls.{round_trip_tests, compared_answer, Claimed};
 
 use fdct::fdct_quantize;
 use idct_8x8::{islow_block, islow_block_i32};
-use stored_blocks::{Answer, dequantize, same};
+use refusals::Refusal;
+use stored_blocks::{dequantize, same};
 
-// The status by the lengths.
-fn lengths_status(
+#[tactic(auto, unfolding(refusals::specs::Refusals::status, bounds::specs::Calls::round_trip_tests))]
+fn test_lengths(
     a: usize,
     b: usize,
     quant: usize,
@@ -29,44 +31,18 @@ fn lengths_status(
     samples: usize,
     products_i32: usize,
     samples_i32: usize,
-) -> u32
-    ensures { result ≡ status (round_trip_tests a b quant coefficients_a coefficients_b products samples products_i32 samples_i32) }
+) -> Result<(), Refusal>
+    ensures { status_of result ≡ status (round_trip_tests a b quant coefficients_a coefficients_b products samples products_i32 samples_i32) }
 {
-    if a != 64 {
-        return 1;
-    }
-    if b != 64 {
-        return 1;
-    }
-    if quant != 64 {
-        return 2;
-    }
-    if coefficients_a != 64 {
-        return 3;
-    }
-    if coefficients_b != 64 {
-        return 3;
-    }
-    if products != 64 {
-        return 3;
-    }
-    if samples != 64 {
-        return 3;
-    }
-    if products_i32 != 64 {
-        return 3;
-    }
-    if samples_i32 != 64 {
-        return 3;
-    }
-    0
-}
-
-fn to_i16(product: i32) -> i16
-    requires { Fits16 product }
-    ensures { result ≡ product }
-{
-    product as i16
+    Refusal::Block.unless(a == 64)?;
+    Refusal::Block.unless(b == 64)?;
+    Refusal::Table.unless(quant == 64)?;
+    Refusal::Output.unless(coefficients_a == 64)?;
+    Refusal::Output.unless(coefficients_b == 64)?;
+    Refusal::Output.unless(products == 64)?;
+    Refusal::Output.unless(samples == 64)?;
+    Refusal::Output.unless(products_i32 == 64)?;
+    Refusal::Output.unless(samples_i32 == 64)
 }
 
 // Products that fit 16 bits, as numbers of 16 bits.
@@ -75,10 +51,8 @@ fn write_i16(products: &[i32], out: &mut [i16])
     requires products_len { (length products.now ≡ 64) × (length out.old ≡ 64) }
     ensures { out.new ≡ products.now }
 {
-    let mut n = 0;
-    while n < 64 {
-        out[n] = to_i16(products[n]);
-        n += 1;
+    for n in 0..64 {
+        out[n] = products[n] as i16;
     }
 }
 
@@ -94,17 +68,17 @@ pub fn round_trip(
     samples: &mut [u8],
     products_i32: &mut [i32],
     samples_i32: &mut [u8],
-) -> Answer
-    ensures value { result ≡ compared_answer (status (round_trip_tests (length a.now) (length b.now) (length quant.now) (length coefficients_a.old) (length coefficients_b.old) (length products_i16.old) (length samples.old) (length products_i32.old) (length samples_i32.old))) a.now b.now quant.now }
-    ensures coefficients_a_after { coefficients_a.new ≡ written result.status (coefficients a.now quant.now) coefficients_a.old }
-    ensures coefficients_b_after { coefficients_b.new ≡ written result.status (coefficients b.now quant.now) coefficients_b.old }
-    ensures products_i16_after { products_i16.new ≡ written result.status (products a.now quant.now) products_i16.old }
-    ensures samples_after { samples.new ≡ written result.status (decoded a.now quant.now) samples.old }
-    ensures products_i32_after { products_i32.new ≡ written result.status (products a.now quant.now) products_i32.old }
-    ensures samples_i32_after { samples_i32.new ≡ written result.status (decoded a.now quant.now) samples_i32.old }
-    ensures claimed { result.status ≡ 0 → Claimed quant.now a.now b.now coefficients_a.new coefficients_b.new products_i16.new samples.new products_i32.new samples_i32.new }
+) -> Result<bool, Refusal>
+    ensures value { told false result ≡ compared_answer (status (round_trip_tests (length a.now) (length b.now) (length quant.now) (length coefficients_a.old) (length coefficients_b.old) (length products_i16.old) (length samples.old) (length products_i32.old) (length samples_i32.old))) a.now b.now quant.now }
+    ensures coefficients_a_after { coefficients_a.new ≡ written (status_of result) (coefficients a.now quant.now) coefficients_a.old }
+    ensures coefficients_b_after { coefficients_b.new ≡ written (status_of result) (coefficients b.now quant.now) coefficients_b.old }
+    ensures products_i16_after { products_i16.new ≡ written (status_of result) (products a.now quant.now) products_i16.old }
+    ensures samples_after { samples.new ≡ written (status_of result) (decoded a.now quant.now) samples.old }
+    ensures products_i32_after { products_i32.new ≡ written (status_of result) (products a.now quant.now) products_i32.old }
+    ensures samples_i32_after { samples_i32.new ≡ written (status_of result) (decoded a.now quant.now) samples_i32.old }
+    ensures claimed { status_of result ≡ 0 → Claimed quant.now a.now b.now coefficients_a.new coefficients_b.new products_i16.new samples.new products_i32.new samples_i32.new }
 {
-    let status = lengths_status(
+    test_lengths(
         a.len(),
         b.len(),
         quant.len(),
@@ -114,15 +88,12 @@ pub fn round_trip(
         samples.len(),
         products_i32.len(),
         samples_i32.len(),
-    );
-    if status != 0 {
-        return Answer { status, yes: false };
-    }
-    fdct_quantize(a, quant, coefficients_a);
-    fdct_quantize(b, quant, coefficients_b);
-    dequantize(coefficients_a, quant, products_i32);
+    )?;
+    fdct_quantize(a, quant, coefficients_a)?;
+    fdct_quantize(b, quant, coefficients_b)?;
+    dequantize(coefficients_a, quant, products_i32)?;
     write_i16(products_i32, products_i16);
-    islow_block(products_i16, samples);
-    islow_block_i32(products_i32, samples_i32);
+    let _ = islow_block(products_i16, samples);
+    let _ = islow_block_i32(products_i32, samples_i32);
     same(coefficients_a, coefficients_b)
 }

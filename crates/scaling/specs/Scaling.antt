@@ -4,8 +4,8 @@ use Rattle.std.specs.Int.Signed.{le_z}
 use Rattle.std.specs.Int.{Width, w32}
 use Rattle.integers.specs.Wrap.{wrap}
 use Rattle.integers.specs.Floor.{floor_div}
-use Rattle.refusals.specs.Refusals.{Test, ◌unless◌, status, written}
-use Rattle.scaling.specs.declared.Descaled.{Descaled}
+use Rattle.refusals.specs.Refusals.{Test, ◌unless◌}
+use Rattle.refusals.specs.Numbers.{Answer, answer}
 
 -- v + 2^(s-1), wrapped to w's signed bits, then floor division by 2^s
 unfoldable pub descaled : Width → ℤ → ℕ → ℤ
@@ -16,7 +16,5 @@ abbrev pub shift_tests : ℤ → List Test
 shift_tests s = 6 unless (le_z (pos 1) s && le_z s (pos 31)) ∷ []
 
 -- what `descale(v, s)` answers
-unfoldable pub descale_answer : ℤ → ℤ → Descaled
-descale_answer v s =
-    let r = status (shift_tests s) in
-    record { status = r; value = written r (descaled w32 v (nat_abs s)) (pos 0) }
+abbrev pub descale_answer : ℤ → ℤ → Answer ℤ
+descale_answer v s = answer (shift_tests s) (descaled w32 v (nat_abs s)) (pos 0)

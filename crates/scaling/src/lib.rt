@@ -2,59 +2,35 @@
 
 #![tactic(auto)]
 
-ghost use Rattle.std.specs.Prelude.{◌≡◌, ◌≤◌};
-ghost use Rattle.std.specs.Int.{w32, w64};
+ghost use Rattle.std.specs.Prelude.{◌≡◌, ◌≤◌, pos};
+ghost use Rattle.std.specs.Int.{w32};
+ghost use Rattle.integers.specs.Wrap.{top_bit};
+ghost use Rattle.refusals.specs.Numbers.{told};
 ghost use Rattle.scaling.specs.Scaling.{descaled, descale_answer};
 
-use wrapping::{wrapping_add_i32, wrapping_add_i64};
-
-// What `descale` answers: status 0 and the value, or a refusal's number and 0.
-#[derive(Clone, Copy)]
-pub struct Descaled {
-    pub status: u32,
-    pub value: i32,
-}
+use refusals::Refusal;
+use wrapping::Wrapping;
 
 // libjpeg's DESCALE at a known shift: half of 2^shift is added, then the sum is shifted right (rounds half up).
-pub fn descale_i32(value: i32, shift: u32) -> i32
-    requires { (1 ≤ shift) × (shift ≤ 31) }
-    ensures { result ≡ descaled w32 value shift }
+pub fn descale_by<T: Wrapping>(value: T, shift: u32) -> T
+    requires { (1 ≤ shift) × (shift ≤ top_bit T.width) }
+    ensures { T.value result ≡ descaled T.width (T.value value) shift }
 {
-    wrapping_add_i32(value, 1i32 << (shift - 1)) >> shift
+    value.add(T::from_i32(1).shl(shift - 1)).shr(shift)
 }
 
-pub fn descale_i64(value: i64, shift: u32) -> i64
-    requires { (1 ≤ shift) × (shift ≤ 63) }
-    ensures { result ≡ descaled w64 value shift }
+// `descale_by` at any shift; refused for a shift outside 1..31.
+#[tactic(auto, unfolding(refusals::specs::Refusals::status, refusals::specs::Refusals::written))]
+pub fn descale(value: i32, shift: i32) -> Result<i32, Refusal>
+    ensures { told (pos 0) result ≡ descale_answer value shift }
 {
-    wrapping_add_i64(value, 1i64 << (shift - 1)) >> shift
-}
-
-// `descale_i32` at any shift; 6 for a shift outside 1..31.
-pub fn descale(value: i32, shift: i32) -> Descaled
-    ensures { result ≡ descale_answer value shift }
-{
-    if shift < 1 {
-        return Descaled {
-            status: 6,
-            value: 0,
-        };
-    }
-    if shift > 31 {
-        return Descaled {
-            status: 6,
-            value: 0,
-        };
-    }
-    Descaled {
-        status: 0,
-        value: descale_i32(value, shift as u32),
-    }
+    Refusal::Shift.unless(1 <= shift && shift <= 31)?;
+    Ok(descale_by(value, shift as u32))
 }
 
 // The sample, before the level shift, of a block whose AC coefficients are zero.
 pub fn islow_dc(dc: i32) -> i32
     ensures { result ≡ descaled w32 dc 3 }
 {
-    descale_i32(dc, 3)
+    descale_by(dc, 3)
 }

@@ -1,17 +1,20 @@
 -- The answers of the entries, as their contract clauses state them; what a yes says; and what the canonical entry writes passes the screen.
 -- Assumes nothing.
-use mathlib.Core.Path.{◌≡◌, refl, sym, ◌∙◌}
-use mathlib.Core.Bool.{Bool, true, false}
+use mathlib.Core.Path.{◌≡◌, refl, sym, subst, ◌∙◌}
+use mathlib.Core.Bool.{true, false}
 use mathlib.Core.List.{List}
 use Prim.Native.Nat.{ℕ, ◌<◌}
 use lib.Dec.{T}
 use lib.ListN.{length, get_or}
 use lib.IntN.{ℤ, pos}
 use lib.Ieee.Bits.{is_true}
+use Rattle.std.specs.Bool.{one_answer}
+use Rattle.std.specs.Cmp.Lexicographic.{pointwise}
+use Rattle.std.specs.Cmp.Rules.{signed_items}
+use Rattle.std.specs.Ordering.{int_eq}
 use Rattle.integers.proofs.Equal.{eq_z-same, eq_z-true}
 use Rattle.lists.proofs.Tab.{length-tab, by-elements, get_d-tab, tab-get_d}
 use Rattle.lists.proofs.Below.{below_at, at-below, below_holds}
-use Rattle.refusals.specs.Refusals.{status, written}
 use Rattle.refusals.proofs.Refusals.{has, ◌then◌, accepted, answered}
 use Rattle.basis.specs.Cosine.{cosines}
 use Rattle.basis.specs.Basis.{reduced, cosine_of, negated, signed, factor, entry, reflected, mirrors, basis}
@@ -20,23 +23,11 @@ use Rattle.forward.specs.Sum.{total}
 use Rattle.forward.specs.Forward.{scaled_sum}
 use Rattle.forward.specs.Canonical.{Bytes, canonical_at, canonical, coefficients_at, coefficients}
 use Rattle.stored_blocks.specs.Screen.{SumOf, Passes}
-use Rattle.stored_blocks.specs.declared.Answer.{Answer}
-use Rattle.stored_blocks.specs.Stored.{screened, screen_tests, screen_answer, same_blocks, same_tests, same_answer}
+use Rattle.stored_blocks.specs.Stored.{screened, screen_tests, screen_answer, same_blocks}
 use Rattle.stored_blocks.proofs.Extent.{weighed, extent, low-least, high-greatest, high-size}
 use Rattle.stored_blocks.proofs.Limits.{passes-yes, passes-all, within, passes-within, within-passes}
 
-abbrev answer : ℕ → Bool → Answer
-answer s t = record { status = s; yes = t }
-
-pub screen-answers : (cs : List ℤ) (quant : List ℕ) {s : ℕ} {t : Bool} → (s ≡ status (screen_tests cs quant)) × (t ≡ written s (screened cs quant) false) → answer s t ≡ screen_answer cs quant
-unfolding screen_answer
-screen-answers cs quant = answered (screened cs quant) false (screen_tests cs quant) answer
-
 module _ (a b : List ℤ) where
-  pub same-answers : {s : ℕ} {t : Bool} → (s ≡ status (same_tests a b)) × (t ≡ written s (same_blocks a b) false) → answer s t ≡ same_answer a b
-  unfolding same_answer
-  same-answers = answered (same_blocks a b) false (same_tests a b) answer
-
   -- "all 64 coefficients equal": the two blocks are the same list
   pub same-yes : length a ≡ 64 → length b ≡ 64 → T (same_blocks a b) → a ≡ b
   unfolding same_blocks
@@ -46,6 +37,10 @@ module _ (a b : List ℤ) where
   pub same-equal : a ≡ b → same_blocks a b ≡ true
   unfolding same_blocks
   same-equal e = below_holds 64 _ (λ n h. eq_z-same (get_or a n (pos 0)) (get_or b n (pos 0)) (λ i. get_or (e i) n (pos 0)))
+
+  -- what `==` says of them
+  pub compared : length a ≡ 64 → length b ≡ 64 → pointwise int_eq a b ≡ same_blocks a b
+  compared p q = one_answer _ _ (signed_items a b) (λ t. same-yes p q (subst T (sym t) tt), same-equal)
 
 module _ (cs : List ℤ) (quant : List ℕ) where
   -- the screen's yes, both ways
@@ -67,10 +62,11 @@ canonical-passes block quant e =
     record { number = S; from = (low-least n).1 S s; to = (high-greatest n).1 S s; has = sym (get_d-tab 64 (canonical block quant) (pos 0) n h) })
 
 -- so the screen answers yes
-pub canonical-answer : (block quant : List ℕ) → Bytes block → length quant ≡ 64 → screen_answer (coefficients block quant) quant ≡ answer 0 true
+pub canonical-answer : (block quant : List ℕ) → Bytes block → length quant ≡ 64 → screen_answer (coefficients block quant) quant ≡ record { status = 0; value = true }
 unfolding coefficients_at
 canonical-answer block quant e q =
-    sym (screen-answers _ _ (accepted _ _ _ (has (length-tab 64 (canonical block quant)) then has q then tt) (sym (is_true _ (canonical-passes block quant e)))))
+    sym (answered (screened (coefficients block quant) quant) false (screen_tests (coefficients block quant) quant) (λ s t. record { status = s; value = t })
+    (accepted _ _ _ (has (length-tab 64 (canonical block quant)) then has q then tt) (sym (is_true _ (canonical-passes block quant e)))))
 
 -- "DC 5 with 225 passes, 6 does not"
 pub white-dc : Passes 0 225 (pos 5) × (Passes 0 225 (pos 6) → ⊥)

@@ -2,17 +2,15 @@
 -- Assumes nothing.
 use mathlib.Core.Path.{◌≡◌, refl, sym, ap, subst, ◌∙◌}
 use mathlib.Core.Bool.{Bool, true, false, cond}
-use mathlib.Core.List.{List}
 use Prim.Native.Nat.{ℕ, zero, suc, ◌+◌, ◌*◌, ◌/◌, ◌%◌, ◌≤◌, ◌<◌, zero-le}
 use native.Mathlib.Nat.{mul-le-mul_right}
 use native.Mathlib.Omega.{arith}
 use lib.ListN.{get_or}
-use lib.IntN.{ℤ, pos, negsuc, neg_ℤ, nat_abs, ◌+ℤ◌, ◌-ℤ◌, ◌*ℤ◌}
+use lib.IntN.{ℤ, pos, negsuc, neg_ℤ, nat_abs, ◌-ℤ◌, ◌*ℤ◌}
 use lib.Signed.{non_neg, ◌≤ℤ◌}
 use Rattle.integers.proofs.Difference.{dif-eq, differences}
 use Rattle.integers.proofs.Order.{dif-le}
 use Rattle.integers.proofs.Ring.{nat_abs-neg}
-use Rattle.lists.specs.Tab.{tab}
 use Rattle.lists.proofs.Tab.{get_d-tab}
 use Rattle.basis.specs.Basis.{basis}
 use Rattle.forward.specs.Sum.{sum_to, total}
@@ -20,7 +18,7 @@ use Rattle.forward.specs.Forward.{centred, scaled_sum}
 use Rattle.forward.specs.Canonical.{Bytes}
 use Rattle.forward.proofs.Sum.{sum-ext, sum-le, sum-pos}
 use Rattle.forward.proofs.Canonical.{up_to}
-use Rattle.stored_blocks.specs.Screen.{SumOf, Least, Greatest, by_sign, low, high}
+use Rattle.stored_blocks.specs.Screen.{Least, Greatest, by_sign, low, high}
 
 -- a sample less the centre, times a number of the basis
 module _ (c s t : ℕ) (h : s ≤ t) (k : ℕ) where

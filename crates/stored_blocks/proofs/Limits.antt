@@ -15,7 +15,6 @@ use Rattle.integers.specs.Equal.{eq_z}
 use Rattle.integers.proofs.Equal.{eq_z-same, eq_z-true}
 use Rattle.integers.proofs.Difference.{dif, dif-eq, differences, neg-dif, negsuc-dif, pos-dif}
 use Rattle.integers.proofs.Order.{le_z-dif, dif-le, le-dif}
-use Rattle.integers.specs.Range.{Some}
 use Rattle.integers.proofs.Range.{some-yes, some-all}
 use Rattle.lists.proofs.Tab.{get_d-tab}
 use Rattle.quantize.specs.Quantize.{divisor_of, rounded, with_sign, coefficient}

@@ -11,11 +11,14 @@ use std::io::Read;
 
 // Puts what is read at the start of the room, and answers how many bytes that are. A failed read
 // counts as the end of the input. Nothing is read behind the room.
+// form kept: each read says how far the loop goes on, and std's `read_exact` does not say how many
+// bytes came before the end.
 pub fn read_full<R: Read>(input: &mut R, room: &mut [u8]) -> usize
     ensures in_bounds { result ≤ length room.new }
     ensures bytes { Consumes (R.remaining input.old) (R.remaining input.new) (take result room.new) }
 {
     let mut count = 0;
+    // No index that goes up by one: each read says how many places it filled.
     while count < room.len() {
         match input.read(&mut room[count..]) {
             Ok(0) | Err(_) => break,

@@ -1,24 +1,21 @@
 // A block of 64 equal samples (transform.rs, the first test of `fdct_quantize`; document 01, "The guarded quantizer").
-ghost use Rattle.std.specs.Prelude.{◌≡◌, true, ◌<◌, ◌^◌, length, pos, nat_abs, ◌-ℤ◌, ◌*ℤ◌};
+ghost use Rattle.std.specs.Prelude.{◌≡◌, true, ◌<◌, ◌^◌, pos, nat_abs, ◌-ℤ◌, ◌*ℤ◌};
 ghost use Rattle.quantize.specs.Quantize.{coefficient};
 ghost use Rattle.guarded_quantizer.specs.Record.{record_of};
 ghost use Rattle.guarded_quantizer.specs.Constant.{constant, only_dc};
 
-use crate::record::table_of;
 use guarded_quantizer::QuantizedBlock;
 use quantize::quantize;
 
 // Whether the 64 samples are equal. No branch for each, so that the compiler tests many at once.
-pub fn all_equal(block: &[u8]) -> bool
-    requires { length block.now ≡ 64 }
+#[tactic(auto, unfolding(lists::specs::Below::below))]
+pub fn all_equal(block: &[u8; 64]) -> bool
     ensures { result ≡ constant block.now }
 {
     let first = block[0];
     let mut same = true;
-    let mut n = 0;
-    while n < 64 {
-        same = (block[n] == first) & same;
-        n += 1;
+    for sample in block {
+        same &= *sample == first;
     }
     same
 }
@@ -32,18 +29,14 @@ fn constant_dc(sample: u8, quantizer: u8) -> i16
 }
 
 // The record of a block of equal samples.
-pub fn constant_record(block: &[u8], quant: &[u8]) -> QuantizedBlock
-    requires block_len { length block.now ≡ 64 }
-    requires block_value { constant block.now ≡ true }
-    requires quant_len { length quant.now ≡ 64 }
+pub fn constant_record(block: &[u8; 64], quant: &[u8; 64]) -> QuantizedBlock
+    requires { constant block.now ≡ true }
     ensures { result ≡ record_of quant.now (only_dc block.now quant.now) }
 {
-    let dc = constant_dc(block[0], quant[0]);
-    let divisors = table_of(quant);
     QuantizedBlock {
-        dc,
+        dc: constant_dc(block[0], quant[0]),
         ac_coefficients: [0i16; 64],
         nonzero_ac: 0,
-        divisors,
+        divisors: *quant,
     }
 }

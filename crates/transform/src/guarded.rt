@@ -2,7 +2,7 @@
 //
 // The f64 transform and one product give each coefficient, unless the product lies so near to a half that its rounding error could
 // decide: there the canonical transform does.
-ghost use Rattle.std.specs.Prelude.{◌≡◌, true, cond, ℕ, ◌+◌, ◌*◌, ◌/◌, ◌<◌, T, length, get_or, pos, ◌-ℤ◌};
+ghost use Rattle.std.specs.Prelude.{◌≡◌, true, cond, ℕ, ◌+◌, ◌*◌, ◌/◌, ◌<◌, T, get_or, pos, ◌-ℤ◌};
 ghost use Rattle.std.specs.Float.{nan, binary64};
 ghost use Rattle.std.specs.Float.Ieee.{fits, mul};
 ghost use Rattle.std.specs.Int.{w16};
@@ -18,25 +18,23 @@ ghost use Rattle.transform.specs.Settled.{in_range, point, settled_point, by_val
 use crate::binary64::{near_half, round_to_i16};
 use fdct::fdct_quantize_coefficient;
 use fdct_f64::fdct_values;
+use std::array;
 
 // 2^36 + 32768.5. A value smaller than 32767 in absolute value, added to it, gives a sum from 2^36 to 2^37, where floats are 2^-16 apart: the lower
 // 52 bits of the sum are the value + 32768.5 in units of 2^-16, at most one unit off (`settled-point` of crate guarded_quantizer).
 const ROUNDING: f64 = 68_719_509_504.5;
 
-fn canonical_coefficient(block: &[u8], quantizer: u8, n: usize) -> i16
-    requires block_len { length block.now ≡ 64 }
-    requires n_bound { n < 64 }
+fn canonical_coefficient(block: &[u8; 64], quantizer: u8, n: usize) -> i16
+    requires { n < 64 }
     ensures value { result ≡ coefficient (scaled_sum 128 block.now n) quantizer }
     ensures sfits { SFits w16 result }
 {
-    let answer = fdct_quantize_coefficient(block, quantizer, n);
-    answer.value
+    fdct_quantize_coefficient(block, quantizer, n).unwrap()
 }
 
 // The coefficient n at any `scaled`, worked out from its bits.
-fn exact_coefficient(scaled: f64, block: &[u8], quantizer: u8, n: usize) -> i16
-    requires block_len { length block.now ≡ 64 }
-    requires n_bound { n < 64 }
+fn exact_coefficient(scaled: f64, block: &[u8; 64], quantizer: u8, n: usize) -> i16
+    requires { n < 64 }
     ensures value { result ≡ cond (near_half scaled) (coefficient (scaled_sum 128 block.now n) quantizer) (rounded_to_i16 scaled) }
     ensures sfits { SFits w16 result }
 {
@@ -49,9 +47,8 @@ fn exact_coefficient(scaled: f64, block: &[u8], quantizer: u8, n: usize) -> i16
 // The coefficient n, of which `scaled` is the value times the reciprocal. One sum settles nearly every value without a mispredicted branch:
 // where the rest is not at an end of its range, the value is not near a half, and the part above the rest is the value rounded. The few
 // others go by the exact guard.
-fn coefficient_of(scaled: f64, block: &[u8], quantizer: u8, n: usize) -> i16
-    requires block_len { length block.now ≡ 64 }
-    requires n_bound { n < 64 }
+fn coefficient_of(scaled: f64, block: &[u8; 64], quantizer: u8, n: usize) -> i16
+    requires { n < 64 }
     ensures value { result ≡ cond (near_half scaled) (coefficient (scaled_sum 128 block.now n) quantizer) (rounded_to_i16 scaled) }
     ensures sfits { SFits w16 result }
 {
@@ -66,30 +63,22 @@ fn coefficient_of(scaled: f64, block: &[u8], quantizer: u8, n: usize) -> i16
 }
 
 // The values of row v times their reciprocals.
-fn scaled_row(values: &[f64; 64], reciprocals: &[f64], v: usize) -> [f64; 8]
-    requires reciprocals_len { length reciprocals.now ≡ 64 }
-    requires v_bound { v < 8 }
+fn scaled_row(values: &[f64; 64], reciprocals: &[f64; 64], v: usize) -> [f64; 8]
+    requires { v < 8 }
     ensures { result ≡ tab 8 (λ u. mul binary64 (get_or values.now (8 * v + u) nan) (get_or reciprocals.now (8 * v + u) nan)) }
 {
-    let mut scaled = [0.0f64; 8];
-    let mut u = 0;
-    while u < 8 {
-        scaled[u] = values[8 * v + u] * reciprocals[8 * v + u];
-        u += 1;
-    }
-    scaled
+    array::from_fn(|u| values[8 * v + u] * reciprocals[8 * v + u])
 }
 
 // Whether the sum with ROUNDING can settle each of eight values. No branch for each, here and below, so that the compiler works on
 // several at once.
+#[tactic(auto, unfolding(lists::specs::Below::below))]
 fn all_in_range(scaled: &[f64; 8]) -> bool
     ensures { result ≡ below 8 (λ u. in_range (get_or scaled.now u nan)) }
 {
     let mut all = true;
-    let mut u = 0;
-    while u < 8 {
-        all = ((-32767.0 < scaled[u]) & (scaled[u] < 32767.0)) & all;
-        u += 1;
+    for q in scaled {
+        all &= (-32767.0 < *q) & (*q < 32767.0);
     }
     all
 }
@@ -101,24 +90,21 @@ fn points_of(scaled: &[f64; 8]) -> [u32; 8]
     ensures { result ≡ tab 8 (λ u. point (get_or scaled.now u nan)) }
 {
     let mut points = [0u32; 8];
-    let mut u = 0;
-    while u < 8 {
+    for u in 0..8 {
         points[u] = (f64::to_bits(scaled[u] + ROUNDING) % 0x10_0000_0000_0000) as u32;
-        u += 1;
     }
     points
 }
 
 // Whether no rest is at an end of its range.
+#[tactic(auto, unfolding(lists::specs::Below::below))]
 fn all_settled(points: &[u32; 8]) -> bool
     ensures { result ≡ below 8 (λ u. settled_point (get_or points.now u 0)) }
 {
     let mut all = true;
-    let mut u = 0;
-    while u < 8 {
-        let rest = points[u] % 0x1_0000;
-        all = ((2 <= rest) & (rest <= 65534)) & all;
-        u += 1;
+    for point in points {
+        let rest = *point % 0x1_0000;
+        all &= (2 <= rest) & (rest <= 65534);
     }
     all
 }
@@ -134,34 +120,24 @@ fn whole_part(point: u32) -> i16
 fn whole_parts(points: &[u32; 8]) -> [i16; 8]
     ensures { result ≡ tab 8 (λ u. pos (get_or points.now u 0 / 65536) -ℤ pos 32768) }
 {
-    let mut parts = [0i16; 8];
-    let mut u = 0;
-    while u < 8 {
-        parts[u] = whole_part(points[u]);
-        u += 1;
-    }
-    parts
+    array::from_fn(|u| whole_part(points[u]))
 }
 
 // The coefficients of row v, one after the other.
-fn each_coefficient(scaled: &[f64; 8], block: &[u8], quant: &[u8], v: usize) -> [i16; 8]
-    requires block_len { (length block.now ≡ 64) × (length quant.now ≡ 64) }
-    requires v_bound { v < 8 }
+fn each_coefficient(scaled: &[f64; 8], block: &[u8; 64], quant: &[u8; 64], v: usize) -> [i16; 8]
+    requires { v < 8 }
     ensures { result ≡ tab 8 (λ u. by_value block.now quant.now (8 * v + u) (get_or scaled.now u nan)) }
 {
     let mut row = [0i16; 8];
-    let mut u = 0;
-    while u < 8 {
+    for u in 0..8 {
         row[u] = coefficient_of(scaled[u], block, quant[8 * v + u], 8 * v + u);
-        u += 1;
     }
     row
 }
 
 // The coefficients of row v: where one sum settles each of them, at once.
-fn row_coefficients(scaled: &[f64; 8], block: &[u8], quant: &[u8], v: usize) -> [i16; 8]
+fn row_coefficients(scaled: &[f64; 8], block: &[u8; 64], quant: &[u8; 64], v: usize) -> [i16; 8]
     requires by_index { (u : ℕ) → u < 8 → T (fits binary64 (get_or scaled.now u nan)) }
-    requires block_len { (length block.now ≡ 64) × (length quant.now ≡ 64) }
     requires v_bound { v < 8 }
     ensures { result ≡ tab 8 (λ u. by_value block.now quant.now (8 * v + u) (get_or scaled.now u nan)) }
 {
@@ -175,24 +151,21 @@ fn row_coefficients(scaled: &[f64; 8], block: &[u8], quant: &[u8], v: usize) -> 
 }
 
 // The coefficients in natural order.
-pub fn guarded_coefficients(block: &[u8], quant: &[u8], reciprocals: &[f64]) -> [i16; 64]
-    requires block_len { length block.now ≡ 64 }
-    requires quant_len { length quant.now ≡ 64 }
-    requires reciprocals_len { length reciprocals.now ≡ 64 }
+pub fn guarded_coefficients(
+    block: &[u8; 64],
+    quant: &[u8; 64],
+    reciprocals: &[f64; 64],
+) -> [i16; 64]
     ensures { result ≡ tab 64 (guarded block.now quant.now reciprocals.now) }
 {
     let values = fdct_values(block);
     let mut coefficients = [0i16; 64];
-    let mut v = 0;
-    while v < 8 {
+    for v in 0..8 {
         let scaled = scaled_row(&values, reciprocals, v);
         let row = row_coefficients(&scaled, block, quant, v);
-        let mut u = 0;
-        while u < 8 {
+        for u in 0..8 {
             coefficients[8 * v + u] = row[u];
-            u += 1;
         }
-        v += 1;
     }
     coefficients
 }

@@ -14,43 +14,25 @@ pub mod same;
 
 ghost use Rattle.std.specs.Prelude.{◌≡◌, length};
 ghost use Rattle.refusals.specs.Refusals.{status};
+ghost use Rattle.refusals.specs.Numbers.{status_of, told};
 ghost use Rattle.guarded_quantizer.specs.Record.{record_of};
-ghost use Rattle.guarded_quantizer.specs.Answer.{coefficients_of, guarded_tests, quantized, zero_record, guarded_answer};
+ghost use Rattle.guarded_quantizer.specs.Answer.{coefficients_of, guarded_tests, zero_record, guarded_answer};
 
 use crate::constant::{all_equal, constant_record};
 use crate::guarded::guarded_coefficients;
 use crate::record::from_natural_order;
 use fdct_f64::has_zero;
-use guarded_quantizer::{QuantizationDivisors, Quantized, QuantizedBlock};
+use guarded_quantizer::{QuantizationDivisors, QuantizedBlock};
+use refusals::Refusal;
 
-fn refused(status: u32) -> Quantized
-    ensures { result ≡ quantized status zero_record }
+// The entry's refusals: 1, 2 and 5.
+#[tactic(auto, unfolding(refusals::specs::Refusals::status))]
+pub fn guarded_status(block: &[u8], quant: &[u8]) -> Result<(), Refusal>
+    ensures { status_of result ≡ status (guarded_tests block.now quant.now) }
 {
-    Quantized {
-        status,
-        block: QuantizedBlock {
-            dc: 0,
-            ac_coefficients: [0i16; 64],
-            nonzero_ac: 0,
-            divisors: [0u8; 64],
-        },
-    }
-}
-
-// The entry's status: refusals 1, 2 and 5.
-pub fn guarded_status(block: &[u8], quant: &[u8]) -> u32
-    ensures { result ≡ status (guarded_tests block.now quant.now) }
-{
-    if block.len() != 64 {
-        return 1;
-    }
-    if quant.len() != 64 {
-        return 2;
-    }
-    if has_zero(quant) {
-        return 5;
-    }
-    0
+    Refusal::Block.unless(block.len() == 64)?;
+    Refusal::Table.unless(quant.len() == 64)?;
+    Refusal::ZeroQuantizer.unless(!has_zero(quant))
 }
 
 // The record of a block that is not refused. The reciprocals are lent, so that a caller that has them in a slice need not copy them.
@@ -59,6 +41,13 @@ pub fn record_of(block: &[u8], quant: &[u8], reciprocals: &[f64]) -> QuantizedBl
     requires reciprocals_len { length reciprocals.now ≡ 64 }
     ensures { result ≡ record_of quant.now (coefficients_of block.now quant.now reciprocals.now) }
 {
+    let (Ok(block), Ok(quant), Ok(reciprocals)) = (
+        block.try_into(),
+        quant.try_into(),
+        reciprocals.try_into(),
+    ) else {
+        unreachable!()
+    };
     if all_equal(block) {
         return constant_record(block, quant);
     }
@@ -67,16 +56,14 @@ pub fn record_of(block: &[u8], quant: &[u8], reciprocals: &[f64]) -> QuantizedBl
 }
 
 // The divisors are used as handed over, whatever they hold; the record carries those of `quant`.
-pub fn fdct_quantize(block: &[u8], quant: &[u8], divisors: QuantizationDivisors) -> Quantized
-    ensures { result ≡ guarded_answer block.now quant.now divisors.reciprocals }
+#[tactic(auto, unfolding(guarded_quantizer::specs::Answer::guarded_answer, refusals::specs::Refusals::status, refusals::specs::Refusals::written))]
+pub fn fdct_quantize(
+    block: &[u8],
+    quant: &[u8],
+    divisors: QuantizationDivisors,
+) -> Result<QuantizedBlock, Refusal>
+    ensures { told zero_record result ≡ guarded_answer block.now quant.now divisors.reciprocals }
 {
-    let status = guarded_status(block, quant);
-    if status != 0 {
-        return refused(status);
-    }
-    let reciprocals = divisors.reciprocals;
-    Quantized {
-        status: 0,
-        block: record_of(block, quant, &reciprocals),
-    }
+    guarded_status(block, quant)?;
+    Ok(record_of(block, quant, &divisors.reciprocals))
 }

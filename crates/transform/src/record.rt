@@ -1,6 +1,6 @@
 // The record of a quantized block, made from its coefficients (transform.rs, `QuantizedBlock`; document 01, "The guarded quantizer"; its
 // divisors by document 02, card 9).
-ghost use Rattle.std.specs.Prelude.{◌≡◌, ◌≤◌, ◌<◌, ◌-◌, length, get_or, pos};
+ghost use Rattle.std.specs.Prelude.{◌≡◌, ◌≤◌, ◌<◌, ◌-◌, get_or, pos};
 ghost use Rattle.guarded_quantizer.specs.Bitmap.{with_bit, nonzero};
 ghost use Rattle.guarded_quantizer.specs.Record.{record_of};
 
@@ -11,10 +11,7 @@ use zigzag::zigzag;
 fn nonzero_bit(coefficient: i16) -> u64
     ensures { result ≡ nonzero coefficient }
 {
-    if coefficient == 0 {
-        return 0;
-    }
-    1
+    u64::from(coefficient != 0)
 }
 
 // The bitmap with the bit of AC place `zigzag` cleared, and set if its coefficient is not 0. No branch: random coefficients would mislead it.
@@ -27,42 +24,23 @@ fn update_nonzero_ac(bitmap: u64, zigzag: usize, coefficient: i16) -> u64
     (bitmap & !(1u64 << place)) | (nonzero_bit(coefficient) << place)
 }
 
-// The quantizer table by value.
-pub fn table_of(quant: &[u8]) -> [u8; 64]
-    requires { length quant.now ≡ 64 }
-    ensures { result ≡ quant.now }
-{
-    let mut table = [0u8; 64];
-    let mut n = 0;
-    while n < 64 {
-        table[n] = quant[n];
-        n += 1;
-    }
-    table
-}
-
 // The record of coefficients in natural order, quantized under `quant`. In a loop of its own the bitmap stays in a register, and no branch
 // waits for a coefficient.
-pub fn from_natural_order(coefficients: &[i16; 64], quant: &[u8]) -> QuantizedBlock
-    requires { length quant.now ≡ 64 }
+pub fn from_natural_order(coefficients: &[i16; 64], quant: &[u8; 64]) -> QuantizedBlock
     ensures { result ≡ record_of quant.now (λ n. get_or coefficients.now n (pos 0)) }
 {
     let order = zigzag();
-    let dc = coefficients[0];
     let mut ac_coefficients = [0i16; 64];
     let mut nonzero_ac = 0u64;
-    let mut z = 1;
-    while z < 64 {
-        let n = order[z] as usize;
-        let coefficient = coefficients[n];
+    for z in 1..64 {
+        let coefficient = coefficients[order[z] as usize];
         ac_coefficients[z] = coefficient;
         nonzero_ac = update_nonzero_ac(nonzero_ac, z, coefficient);
-        z += 1;
     }
     QuantizedBlock {
-        dc,
+        dc: coefficients[0],
         ac_coefficients,
         nonzero_ac,
-        divisors: table_of(quant),
+        divisors: *quant,
     }
 }

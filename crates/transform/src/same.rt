@@ -9,22 +9,19 @@ fn same_ac(a: &[i16; 64], b: &[i16; 64]) -> bool
     ensures { result ≡ same_ac a.now b.now }
 {
     let mut same = true;
-    let mut z = 1;
-    while z < 64 {
-        same = (a[z] == b[z]) & same;
-        z += 1;
+    for z in 1..64 {
+        same &= a[z] == b[z];
     }
     same
 }
 
+#[tactic(auto, unfolding(lists::specs::Below::below))]
 fn same_divisors(a: &[u8; 64], b: &[u8; 64]) -> bool
     ensures { result ≡ same_divisors a.now b.now }
 {
     let mut same = true;
-    let mut n = 0;
-    while n < 64 {
-        same = (a[n] == b[n]) & same;
-        n += 1;
+    for n in 0..64 {
+        same &= a[n] == b[n];
     }
     same
 }

@@ -1,68 +1,104 @@
-// Rust's `wrapping_add`, `wrapping_sub` and `wrapping_mul` at i32 and at i64: the exact result, wrapped to the type.
+// Numbers of a fixed width, whose sums, differences and products wrap: the exact result, wrapped to the width (document 01, leaf 2).
 //
-// Each goes through the operands' bits (`bits`), where unsigned arithmetic wraps. The compiler makes one instruction of each function.
+// A generic function over them is one function at 32 and at 64 bits. The compiler makes one instruction of each method.
 
 #![tactic(auto)]
 
-pub mod bits;
+ghost use Rattle.std.specs.Prelude.{◌≡◌, ◌^◌, ◌≤◌, ◌+ℤ◌, ◌-ℤ◌, ◌*ℤ◌, ℤ, pos};
+ghost use Rattle.std.specs.Int.{Width, w32, w64};
+ghost use Rattle.integers.specs.Wrap.{wrap, top_bit};
+ghost use Rattle.integers.specs.Floor.{floor_div};
 
-ghost use Rattle.std.specs.Prelude.{◌≡◌, ◌*◌, ◌%◌, ◌^◌, ◌+ℤ◌, ◌-ℤ◌, ◌*ℤ◌};
-ghost use Rattle.std.specs.Int.{w32, w64};
-ghost use Rattle.integers.specs.Wrap.{wrap};
+pub trait Wrapping: Copy {
+    ghost width: { Width };
 
-use crate::bits::{from_bits_u32, from_bits_u64, to_bits_i32, to_bits_i64};
+    // The number that a value stands for.
+    ghost value: { Self → ℤ };
 
-pub fn wrapping_add_i32(a: i32, b: i32) -> i32
-    ensures { result ≡ wrap w32 (a +ℤ b) }
-{
-    from_bits_u32(std::num::wrapping_add_u32(to_bits_i32(a), to_bits_i32(b)))
+    fn from_i32(x: i32) -> Self
+        ensures { value result ≡ x };
+
+    fn add(self, other: Self) -> Self
+        ensures { value result ≡ wrap width (value self +ℤ value other) };
+
+    fn sub(self, other: Self) -> Self
+        ensures { value result ≡ wrap width (value self -ℤ value other) };
+
+    fn mul(self, other: Self) -> Self
+        ensures { value result ≡ wrap width (value self *ℤ value other) };
+
+    fn shl(self, bits: u32) -> Self
+        requires { bits ≤ top_bit width }
+        ensures { value result ≡ wrap width (value self *ℤ pos (2 ^ bits)) };
+
+    // Rounds down.
+    fn shr(self, bits: u32) -> Self
+        requires { bits ≤ top_bit width }
+        ensures { value result ≡ floor_div (value self) (2 ^ bits) };
+
+    final fn times(self, constant: i32) -> Self
+        ensures { value result ≡ wrap width (value self *ℤ constant) }
+    {
+        self.mul(Self::from_i32(constant))
+    }
 }
 
-pub fn wrapping_sub_i32(a: i32, b: i32) -> i32
-    ensures { result ≡ wrap w32 (a -ℤ b) }
-{
-    from_bits_u32(std::num::wrapping_sub_u32(to_bits_i32(a), to_bits_i32(b)))
+impl Wrapping for i32 {
+    ghost width = { w32 };
+
+    ghost value = { λ x. x };
+
+    fn from_i32(x: i32) -> i32 {
+        x
+    }
+
+    fn add(self, other: i32) -> i32 {
+        i32::wrapping_add(self, other)
+    }
+
+    fn sub(self, other: i32) -> i32 {
+        i32::wrapping_sub(self, other)
+    }
+
+    fn mul(self, other: i32) -> i32 {
+        i32::wrapping_mul(self, other)
+    }
+
+    fn shl(self, bits: u32) -> i32 {
+        self << bits
+    }
+
+    fn shr(self, bits: u32) -> i32 {
+        self >> bits
+    }
 }
 
-fn wrapping_mul_u32(x: u32, y: u32) -> u32
-    ensures { result ≡ (x * y) % 2 ^ 32 }
-{
-    let product = (x as u64) * (y as u64);
-    (product % 0x1_0000_0000) as u32
-}
+impl Wrapping for i64 {
+    ghost width = { w64 };
 
-pub fn wrapping_mul_i32(a: i32, b: i32) -> i32
-    ensures { result ≡ wrap w32 (a *ℤ b) }
-{
-    from_bits_u32(wrapping_mul_u32(to_bits_i32(a), to_bits_i32(b)))
-}
+    ghost value = { λ x. x };
 
-pub fn wrapping_add_i64(a: i64, b: i64) -> i64
-    ensures { result ≡ wrap w64 (a +ℤ b) }
-{
-    from_bits_u64(std::num::wrapping_add_u64(to_bits_i64(a), to_bits_i64(b)))
-}
+    fn from_i32(x: i32) -> i64 {
+        i64::from(x)
+    }
 
-pub fn wrapping_sub_i64(a: i64, b: i64) -> i64
-    ensures { result ≡ wrap w64 (a -ℤ b) }
-{
-    from_bits_u64(std::num::wrapping_sub_u64(to_bits_i64(a), to_bits_i64(b)))
-}
+    fn add(self, other: i64) -> i64 {
+        i64::wrapping_add(self, other)
+    }
 
-// By halves of 32 bits, whose products fit.
-pub fn wrapping_mul_u64(x: u64, y: u64) -> u64
-    ensures { result ≡ (x * y) % 2 ^ 64 }
-{
-    let xl = x % 0x1_0000_0000;
-    let xh = x / 0x1_0000_0000;
-    let yl = y % 0x1_0000_0000;
-    let yh = y / 0x1_0000_0000;
-    let cross = std::num::wrapping_add_u64(xl * yh, xh * yl);
-    std::num::wrapping_add_u64(cross << 32, xl * yl)
-}
+    fn sub(self, other: i64) -> i64 {
+        i64::wrapping_sub(self, other)
+    }
 
-pub fn wrapping_mul_i64(a: i64, b: i64) -> i64
-    ensures { result ≡ wrap w64 (a *ℤ b) }
-{
-    from_bits_u64(wrapping_mul_u64(to_bits_i64(a), to_bits_i64(b)))
+    fn mul(self, other: i64) -> i64 {
+        i64::wrapping_mul(self, other)
+    }
+
+    fn shl(self, bits: u32) -> i64 {
+        self << bits
+    }
+
+    fn shr(self, bits: u32) -> i64 {
+        self >> bits
+    }
 }

@@ -1,52 +1,14 @@
-use Prim.Native.Nat.{◌-◌}
-use mathlib.Core.Path.{refl}
-use native.Mathlib.Omega.{arith}
-use mir.Syntax.{w32}
-use mir.ValLaws.{to_z-of_z}
-use Rattle.lists.proofs.Tab.{none, next, filled}
-use Rattle.block.specs.Block.{row_of}
+use Prim.Native.Nat.{ℕ}
+use mathlib.Core.List.{[], ◌∷◌}
+use borrow.Author.Rules.{rules}
+use lib.ListN.{get_or}
+use Rattle.std.proofs.lemmas.List.{get_or_default}
+use Rattle.lists.specs.Tab.{tab}
+use Rattle.block.specs.Block.{row_at}
 use Rattle.block_access.proofs.load_row.Goals as goal
 
-pub loop-u-init : goal.loop-u-init
-unfolding row_of
-loop-u-init c = none _ 8 _ refl
-
-pub offset_bounds-w-u : goal.offset_bounds-w-u
-unfolding row_of
-offset_bounds-w-u c = omega arith
-
-pub offset_bounds-w-y : goal.offset_bounds-w-y
-unfolding row_of
-offset_bounds-w-y c = omega arith
-
-pub bounds-w-u : goal.bounds-w-u
-unfolding row_of
-bounds-w-u c = omega arith
-
-pub bounds-w-y : goal.bounds-w-y
-unfolding row_of
-bounds-w-y c = omega arith
-
-pub offset_bounds-p-u : goal.offset_bounds-p-u
-unfolding row_of
-offset_bounds-p-u c = omega arith
-
-pub bounds-p-u : goal.bounds-p-u
-unfolding row_of
-bounds-p-u c = omega arith
-
-pub overflow_add-u : goal.overflow_add-u
-unfolding row_of
-overflow_add-u c = omega arith
-
-pub loop-u-smaller : goal.loop-u-smaller
-unfolding row_of
-loop-u-smaller c = omega arith
-
-pub loop-u-preserved : goal.loop-u-preserved
-unfolding row_of
-loop-u-preserved c = next c.loop-u.invariant (omega arith) (to_z-of_z w32 _ (record { sfits = c.p-1.given }))
-
 pub returns : goal.returns
-unfolding row_of
-returns c = filled c.loop-u.invariant (omega arith)
+unfolding row_at tab
+returns g c = λ d.
+    let at = λ (k : ℕ) (x : g.row.T.Denot). get_or_default (get_or c.args.w.now k []) c.args.y x d in
+    λ i. at 0 c.index-w-0.result (search rules) i ∷ at 1 c.index-w-1.result (search rules) i ∷ at 2 c.index-w-2.result (search rules) i ∷ at 3 c.index-w-3.result (search rules) i ∷ at 4 c.index-w-4.result (search rules) i ∷ at 5 c.index-w-5.result (search rules) i ∷ at 6 c.index-w-6.result (search rules) i ∷ at 7 c.index-w-7.result (search rules) i ∷ []

@@ -1,11 +1,5 @@
-use Prim.Native.Nat.{◌-◌}
-use lib.ListN.{length}
-use Rattle.clamping.specs.Clamping.{sample_u8}
 use Rattle.block.proofs.Store.{Pasted}
 use Rattle.block_access.proofs.put_row.Given as goal
 
 abbrev pub invariant-loop-k : goal.invariant-loop-k
-invariant-loop-k l = Pasted sample_u8 l.initial.output l.at l.q l.k l.output
-
-abbrev pub decreases-loop-k : goal.decreases-loop-k
-decreases-loop-k l = length l.q - l.k
+invariant-loop-k g l = Pasted g.T.Sampled.clamp l.initial.output l.at l.q l.k l.output

@@ -8,5 +8,5 @@ returns-then-sum-lt0 c = rule-raised 255 _ (rw (to_z-of_z c.ranges.sum) at c.if-
 pub returns-then-sum-gt255 : goal.returns-then-sum-gt255
 returns-then-sum-gt255 c = rule-lowered 255 _ (rw (to_z-of_z c.ranges.sum) at c.if-sum-gt255.true)
 
-pub returns : goal.returns
-returns c = rule-within 255 _ (rw (to_z-of_z c.ranges.sum) at c.if-sum-lt0.false) (rw (to_z-of_z c.ranges.sum) at c.if-sum-gt255.false)
+pub returns-else-sum-gt255 : goal.returns-else-sum-gt255
+returns-else-sum-gt255 c = rule-within 255 _ (rw (to_z-of_z c.ranges.sum) at c.if-sum-lt0.false) (rw (to_z-of_z c.ranges.sum) at c.if-sum-gt255.false)

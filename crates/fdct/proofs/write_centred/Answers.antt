@@ -13,9 +13,9 @@ use Rattle.fdct.proofs.write_centred.Goals as goal
 pub write_coefficients-requires : goal.write_coefficients-requires
 write_coefficients-requires c =
     let level = c.requires.level in record {
-      by_index = λ i. subst (λ (l : List ℤ). nat_abs (get_or l i (pos 0)) ≤ 2 ^ 11) (sym c.level_shift-samples.ensures)
+      centred = λ i. subst (λ (l : List ℤ). nat_abs (get_or l i (pos 0)) ≤ 2 ^ 11) (sym c.level_shift-samples.ensures)
           (omega (arith, level.low, centred-small (2 * c.args.centre) c.args.centre (omega arith) c.args.block.now level.most i));
-      out_len = c.requires.block_len.1;
+      out_len = c.requires.out_len;
     }
 
 pub returns : goal.returns

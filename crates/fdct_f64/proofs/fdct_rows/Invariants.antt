@@ -1,11 +1,7 @@
-use Rattle.std.specs.Prelude.{◌-◌, ◌≤◌}
 use Rattle.lists.proofs.Tab.{Filled}
 use Rattle.guarded_quantizer.specs.Transform.{fdct8}
 use Rattle.guarded_quantizer.specs.Values.{row}
 use Rattle.fdct_f64.proofs.fdct_rows.Given as goal
 
 abbrev pub invariant-loop-y : goal.invariant-loop-y
-invariant-loop-y l = (l.y ≤ 8) × Filled (λ k. fdct8 (row l.block k)) 8 l.y l.rows
-
-abbrev pub decreases-loop-y : goal.decreases-loop-y
-decreases-loop-y l = 8 - l.y
+invariant-loop-y l = Filled (λ k. fdct8 (row l.block k)) 8 l.y l.rows

@@ -1,4 +1,4 @@
-use Rattle.std.specs.Prelude.{◌≡◌, ℕ, ◌+◌, ◌-◌, ◌*◌, ◌/◌, ◌%◌, ◌<◌, List, get_or}
+use Rattle.std.specs.Prelude.{◌≡◌, ℕ, ◌+◌, ◌*◌, ◌/◌, ◌%◌, ◌<◌, List, get_or}
 use mathlib.Core.Path.{refl, ap, ◌∙◌}
 use native.Mathlib.Omega.{arith}
 use lib.Ieee.{Float, nan}
@@ -17,17 +17,17 @@ placed quant u v h e =
 
 pub loop-u-preserved : goal.loop-u-preserved
 loop-u-preserved c =
-    (omega arith, more _ 64 _ _ _ _ c.loop-u.invariant.1 (omega arith) (omega arith) (placed c.args.quant.now c.loop-u.u c.loop-v.v (omega arith) c.reciprocal_row-row.ensures))
+    more _ 64 _ _ _ _ c.loop-u.invariant (omega arith) (omega arith) (placed c.args.quant.now c.loop-u.u c.loop-v.v (omega arith) c.reciprocal_row-row.ensures)
 
 pub returns : goal.returns
 unfolding reciprocals
-returns c = all _ 64 _ _ c.loop-v.invariant.1 (omega arith) (omega arith)
+returns c = all _ 64 _ _ c.loop-v.invariant (omega arith) (omega arith)
 
 pub loop-v-init : goal.loop-v-init
-loop-v-init c = (omega arith, none _ 64 _ refl)
+loop-v-init c = none _ 64 _ refl
 
 pub loop-u-init : goal.loop-u-init
-loop-u-init c = (omega arith, same _ 64 _ _ _ c.loop-v.invariant.1 (omega arith))
+loop-u-init c = same _ 64 _ _ _ c.loop-v.invariant (omega arith)
 
 pub loop-v-preserved : goal.loop-v-preserved
-loop-v-preserved c = (omega arith, same _ 64 _ _ _ c.loop-u.invariant.1 (omega arith))
+loop-v-preserved c = same _ 64 _ _ _ c.loop-u.invariant (omega arith)

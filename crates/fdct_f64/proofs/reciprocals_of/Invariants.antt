@@ -1,4 +1,4 @@
-use Rattle.std.specs.Prelude.{ℕ, ◌+◌, ◌-◌, ◌*◌, ◌/◌, ◌%◌, ◌≤◌, List, get_or}
+use Rattle.std.specs.Prelude.{ℕ, ◌+◌, ◌*◌, ◌/◌, ◌%◌, List, get_or}
 use lib.Ieee.{Float}
 use Rattle.lists.proofs.Tab.{Filled}
 use Rattle.guarded_quantizer.specs.Divisors.{reciprocal}
@@ -8,13 +8,7 @@ abbrev pub one : List ℕ → ℕ → Float
 one quant k = reciprocal (get_or quant k 0) (k % 8) (k / 8)
 
 abbrev pub invariant-loop-u : goal.invariant-loop-u
-invariant-loop-u l = (l.u ≤ 8) × Filled (one l.quant) 64 (8 * l.v + l.u) l.made
-
-abbrev pub decreases-loop-u : goal.decreases-loop-u
-decreases-loop-u l = 8 - l.u
+invariant-loop-u l = Filled (one l.quant) 64 (8 * l.v + l.u) l.made
 
 abbrev pub invariant-loop-v : goal.invariant-loop-v
-invariant-loop-v l = (l.v ≤ 8) × Filled (one l.quant) 64 (8 * l.v) l.made
-
-abbrev pub decreases-loop-v : goal.decreases-loop-v
-decreases-loop-v l = 8 - l.v
+invariant-loop-v l = Filled (one l.quant) 64 (8 * l.v) l.made

@@ -1,38 +1,35 @@
-use mathlib.Core.Path.{◌≡◌, refl, sym, ap, ◌∙◌}
-use lib.ListN.{length}
-use Rattle.refusals.specs.Refusals.{status}
-use Rattle.fewest.specs.Fewest.{search_tests}
+use mathlib.Core.Path.{refl, sym}
+use native.Mathlib.Omega.{arith}
 use Rattle.fewest.specs.Blocks.{at_percent}
-use Rattle.fewest.proofs.Tables.{tables-long}
-use Rattle.fewest.proofs.Growing.{first-long}
-use Rattle.fewest.proofs.Answers.{ready, refused, none-good, some_good, last-least}
+use Rattle.fewest.proofs.Growing.{count-in, none-tried}
+use Rattle.fewest.proofs.Answers.{ready, none-good, some_good, last-least}
 use Rattle.fewest.proofs.fewest_coefficients.Goals as goal
 
-pub add_plane-last-requires : goal.add_plane-last-requires
-add_plane-last-requires c =
-    record { plane_of = (ready _ _ _ _ ((let it : (status (search_tests c.args.samples.now c.args.width c.args.height c.args.base.now) ≡ 0) = sym c.search_status-status.ensures ∙ c.if-status-ne0.false in it))).0; tables_len = (ap length c.percent_tables-tables.ensures ∙ tables-long _, c.trials_of-n.ensures.upper_bound); errors_value = (refl, refl) }
+pub invariant_of-plane : goal.invariant_of-plane
+invariant_of-plane c = record { sized = (ready _ _ _ _ (sym c.in_ok-search_status.ensures)).0 }
 
-pub best_percent-best-requires : goal.best_percent-best-requires
-best_percent-best-requires c =
-    record { errors_len = (ap length c.add_plane-last.ensures.errors_after ∙ first-long _ _, ap length c.add_plane-last.ensures.counts_after ∙ first-long _ _); n_bound = c.trials_of-n.ensures.upper_bound }
+pub add_plane-last-requires-clause-bytes : goal.add_plane-last-requires-clause-bytes
+add_plane-last-requires-clause-bytes c = λ i. omega (arith, c.type_inv.samples i)
+
+pub add_plane-last-requires-clause-all_value : goal.add_plane-last-requires-clause-all_value
+add_plane-last-requires-clause-all_value c = none-tried
 
 -- the count at percent 200 is taken from one that is no less
-pub overflow_sub-result-2 : goal.overflow_sub-result-2
+pub overflow_sub-result-in-Some : goal.overflow_sub-result-in-Some
 unfolding at_percent
-overflow_sub-result-2 c =
-    let n = c.trials_of-n.ensures in last-least c.args.samples.now _ _ c.args.base.now _ c.args.trials n.value c.percent_tables-tables.ensures c.add_plane-last.ensures.errors_after c.add_plane-last.ensures.counts_after c.add_plane-last.ensures.value c.best_percent-best.ensures.result_value c.best_percent-best.ensures.upper_bound c.if-best-eq0.false
+overflow_sub-result-in-Some c =
+    let n = c.trials_of-n.ensures in
+    let best = c.in-Some.ensures in
+    rw (← count-in) (last-least c.args.samples.now _ _ c.args.base.now _ c.args.trials n.value c.percent_tables-tables.ensures c.add_plane-last.ensures.errors_after c.add_plane-last.ensures.counts_after c.add_plane-last.ensures.value best.value c.in-Some.p best.bounds.0 best.bounds.1)
 
-pub returns-then-best-eq0 : goal.returns-then-best-eq0
-returns-then-best-eq0 c =
-    let n = c.trials_of-n.ensures in none-good c.args.samples.now _ _ c.args.base.now _ c.args.trials n.value c.percent_tables-tables.ensures c.add_plane-last.ensures.errors_after c.add_plane-last.ensures.counts_after c.add_plane-last.ensures.value c.best_percent-best.ensures.result_value c.best_percent-best.ensures.upper_bound (sym ((let it : (status (search_tests c.args.samples.now c.args.width c.args.height c.args.base.now) ≡ 0) = sym c.search_status-status.ensures ∙ c.if-status-ne0.false in it))) c.if-best-eq0.true
-
-pub returns : goal.returns
+pub returns-in-Some : goal.returns-in-Some
 unfolding at_percent
-returns c =
-    let n = c.trials_of-n.ensures in some_good c.args.samples.now _ _ c.args.base.now _ c.args.trials n.value c.percent_tables-tables.ensures c.add_plane-last.ensures.errors_after c.add_plane-last.ensures.counts_after c.add_plane-last.ensures.value c.best_percent-best.ensures.result_value c.best_percent-best.ensures.upper_bound (sym ((let it : (status (search_tests c.args.samples.now c.args.width c.args.height c.args.base.now) ≡ 0) = sym c.search_status-status.ensures ∙ c.if-status-ne0.false in it))) c.if-best-eq0.false
+returns-in-Some c =
+    let n = c.trials_of-n.ensures in
+    let best = c.in-Some.ensures in
+    rw (← count-in) (some_good c.args.samples.now _ _ c.args.base.now _ c.args.trials n.value c.percent_tables-tables.ensures c.add_plane-last.ensures.errors_after c.add_plane-last.ensures.counts_after c.add_plane-last.ensures.value best.value c.in_ok-search_status.ensures c.in-Some.p best.bounds.0 best.bounds.1 refl)
 
-pub returns-then-status-ne0 : goal.returns-then-status-ne0
-returns-then-status-ne0 c = refused _ _ _ _ _ _ c.search_status-status.ensures c.if-status-ne0.true
-
-pub percent_tables-tables-requires : goal.percent_tables-tables-requires
-percent_tables-tables-requires c = (ready _ _ _ _ ((let it : (status (search_tests c.args.samples.now c.args.width c.args.height c.args.base.now) ≡ 0) = sym c.search_status-status.ensures ∙ c.if-status-ne0.false in it))).1
+pub returns-in-None : goal.returns-in-None
+returns-in-None c =
+    let n = c.trials_of-n.ensures in
+    none-good c.args.samples.now _ _ c.args.base.now _ c.args.trials n.value c.percent_tables-tables.ensures c.add_plane-last.ensures.errors_after c.add_plane-last.ensures.counts_after c.add_plane-last.ensures.value c.in-None.ensures.value c.in_ok-search_status.ensures refl

@@ -1,8 +1,8 @@
 -- The width and height of a header that is accepted are 1 to 4096, its length at most 65536.
-use Rattle.std.proofs.Common.{◌≡◌, List, ℕ, ◌+◌, ◌*◌, ◌≤◌, sym, ◌∙◌, arith}
+use Rattle.std.proofs.Common.{◌≡◌, List, ℕ, ◌+◌, ◌*◌, ◌≤◌, sym, ap, ◌∙◌, arith}
 use native.Mathlib.Nat.{mul-le-mul}
-use Rattle.pgm.specs.Header.{header_of}
-use Rattle.pgm.specs.declared.Answer.TheVariants.{Header}
+use Rattle.pgm.specs.Header.{Header, header_of}
+use Rattle.pgm.specs.Reader.{told}
 use Rattle.pgm.proofs.Exact.{accepts, accepted-sizes}
 use Rattle.fewest_pgm.proofs.show_picture.Goals as goal
 
@@ -16,11 +16,11 @@ end bytes n w h e =
 
 pub overflow_mul-end : goal.overflow_mul-end
 overflow_mul-end g c =
-    record { fits = omega (arith, end _ _ _ _ (sym c.header_of.ensures ∙ c.in-Header.is)) }
+    record { fits = omega (arith, end _ _ _ _ (sym c.header_of.ensures ∙ ap told c.in-Ok.is)) }
 
 pub overflow_add-end : goal.overflow_add-end
 overflow_add-end g c =
-    record { fits = omega (arith, end _ _ _ _ (sym c.header_of.ensures ∙ c.in-Header.is)) }
+    record { fits = omega (arith, end _ _ _ _ (sym c.header_of.ensures ∙ ap told c.in-Ok.is)) }
 
-pub show_all-requires : goal.show_all-requires
-show_all-requires g c = sizes _ _ _ _ (sym c.header_of.ensures ∙ c.in-Header.is)
+pub show-requires : goal.show-requires
+show-requires g c = sizes _ _ _ _ (sym c.header_of.ensures ∙ ap told c.in-Ok.is)

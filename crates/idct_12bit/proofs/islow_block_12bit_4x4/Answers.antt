@@ -1,15 +1,15 @@
-use Rattle.passes.specs.Passes.{four}
-use Rattle.refusals.proofs.Refusals.{has, lacks, ◌then◌, refused, accepted}
+use mathlib.Core.Path.{◌≡◌, ap, ◌∙◌}
+use borrow.Author.Rules.{rules}
+use mir.Syntax.{w64}
+use Rattle.gains.specs.Gains.{gains4}
+use Rattle.passes.specs.Passes.{four, pass}
+use Rattle.refusals.specs.Refusals.{written}
+use Rattle.block.specs.Block.{columns}
 use Rattle.idct_12bit.proofs.Block.{block_made}
 use Rattle.idct_12bit.proofs.islow_block_12bit_4x4.Goals as goal
 
-pub returns : goal.returns
-unfolding four
-returns c =
-    let xs = c.args.input.now in let l = c.if-input-ne64.false in let all = accepted _ _ _ (has l then has c.if-output-ne16.false then tt) (block_made four xs c.columns_4-w.ensures c.rows_4.ensures) in record { value = all.0; output_after = all.1 }
-
-pub returns-then-input-ne64 : goal.returns-then-input-ne64
-returns-then-input-ne64 c = let all = refused _ _ _ 0 (lacks c.if-input-ne64.true then tt) in record { value = all.0; output_after = all.1 }
-
-pub returns-then-output-ne16 : goal.returns-then-output-ne16
-returns-then-output-ne16 c = let all = refused _ _ _ 1 (has c.if-input-ne64.false then lacks c.if-output-ne16.true then tt) in record { value = all.0; output_after = all.1 }
+pub returns-clause-output_after : goal.returns-clause-output_after
+unfolding four written
+returns-clause-output_after c =
+    let same : c.in_ok-input.input.now ≡ c.args.input.now = search rules in
+    block_made four c.args.input.now (c.columns_4.ensures ∙ ap (columns (pass w64 gains4 13)) same) c.rows_4.ensures

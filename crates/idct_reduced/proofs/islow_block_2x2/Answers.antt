@@ -1,28 +1,22 @@
-use mathlib.Core.Path.{refl, subst}
-use native.Mathlib.Omega.{arith}
+use mathlib.Core.Path.{◌≡◌, ap, ◌∙◌}
+use mathlib.Core.List.{List}
+use borrow.Author.Rules.{rules}
 use lib.Dec.{lit≤}
-use Rattle.integers.specs.Linear.{listed}
+use lib.ListN.{length}
+use lib.IntN.{ℤ}
+use Rattle.clamping.specs.Counts.{counted, tally_one}
 use Rattle.passes.specs.Passes.{two}
-use Rattle.refusals.proofs.Refusals.{has, lacks, ◌then◌}
-use Rattle.block.proofs.Rows.{first-all}
-use Rattle.block.proofs.Level.{Alone, rows-alone, dc-read, level-answered}
-use Rattle.block.proofs.Counts.{refused-counts, block-answered}
+use Rattle.block.specs.Block.{inverse_tests}
+use Rattle.block.specs.Clamped.{unclamped}
+use Rattle.block.proofs.Counts.{entry-answered}
+use Rattle.refusals.proofs.Refusals.{has, ◌then◌}
 use Rattle.idct_reduced.proofs.islow_block_2x2.Goals as goal
 
-pub returns-then-all_zero_i16 : goal.returns-then-all_zero_i16
-unfolding two listed
-returns-then-all_zero_i16 c =
-    let long = c.if-input-ne64.false in let xs = c.args.input.now in let all = level-answered two refl (xs) _ _ (lit≤ tt) (has long then has c.if-output-ne4.false then tt) c.clamped.ensures
-    (subst Alone (first-all xs long) (rows-alone 8 63 xs (omega arith) c.all_zero_i16.ensures c.if-all_zero_i16.true))
-    c.if-output-ne4.false (dc-read (omega (arith, c.coefficient.ensures.fits16.sfits)) c.coefficient.ensures.value) (c.put_level.ensures.value, c.put_level.ensures.output_after) in record { value = all.0; output_after = all.1 }
-
-pub returns : goal.returns
+pub returns-clause-value : goal.returns-clause-value
 unfolding two
-returns c =
-    let all = block-answered two _ _ _ (lit≤ tt) (has c.if-input-ne64.false then has c.if-output-ne4.false then tt) c.clamped-2.ensures c.write_2x2.ensures.value c.write_2x2.ensures.output_after in record { value = all.0; output_after = all.1 }
-
-pub returns-then-input-ne64 : goal.returns-then-input-ne64
-returns-then-input-ne64 c = let all = refused-counts _ _ _ _ _ 0 (lacks c.if-input-ne64.true then tt) c.refused.ensures in record { value = all.0; output_after = all.1 }
-
-pub returns-then-output-ne4 : goal.returns-then-output-ne4
-returns-then-output-ne4 c = let all = refused-counts _ _ _ _ _ 1 (has c.if-input-ne64.false then lacks c.if-output-ne4.true then tt) c.refused-then-output-ne4.ensures in record { value = all.0; output_after = all.1 }
+returns-clause-value c =
+    let xs = c.args.input.now in
+    let same : c.in_ok-input.input.now ≡ xs = search rules in
+    let long : length xs ≡ 64 = search rules in
+    entry-answered two xs (lit≤ tt) c.clamped.ensures (inverse_tests 4 xs c.args.output.now) (has long then search rules then tt)
+    (c.write_2x2_short.ensures.value ∙ ap (λ (ys : List ℤ). counted tally_one (unclamped two ys)) same)

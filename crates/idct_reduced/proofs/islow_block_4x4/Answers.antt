@@ -1,16 +1,22 @@
+use mathlib.Core.Path.{◌≡◌, ap, ◌∙◌}
+use mathlib.Core.List.{List}
+use borrow.Author.Rules.{rules}
 use lib.Dec.{lit≤}
+use lib.ListN.{length}
+use lib.IntN.{ℤ}
+use Rattle.clamping.specs.Counts.{counted, tally_one}
 use Rattle.passes.specs.Passes.{four}
-use Rattle.refusals.proofs.Refusals.{has, lacks, ◌then◌}
-use Rattle.block.proofs.Counts.{refused-counts, block-answered}
+use Rattle.block.specs.Block.{inverse_tests}
+use Rattle.block.specs.Clamped.{unclamped}
+use Rattle.block.proofs.Counts.{entry-answered}
+use Rattle.refusals.proofs.Refusals.{has, ◌then◌}
 use Rattle.idct_reduced.proofs.islow_block_4x4.Goals as goal
 
-pub returns : goal.returns
+pub returns-clause-value : goal.returns-clause-value
 unfolding four
-returns c =
-    let all = block-answered four _ _ _ (lit≤ tt) (has c.if-input-ne64.false then has c.if-output-ne16.false then tt) c.clamped.ensures c.write_4x4.ensures.value c.write_4x4.ensures.output_after in record { value = all.0; output_after = all.1 }
-
-pub returns-then-input-ne64 : goal.returns-then-input-ne64
-returns-then-input-ne64 c = let all = refused-counts _ _ _ _ _ 0 (lacks c.if-input-ne64.true then tt) c.refused.ensures in record { value = all.0; output_after = all.1 }
-
-pub returns-then-output-ne16 : goal.returns-then-output-ne16
-returns-then-output-ne16 c = let all = refused-counts _ _ _ _ _ 1 (has c.if-input-ne64.false then lacks c.if-output-ne16.true then tt) c.refused-then-output-ne16.ensures in record { value = all.0; output_after = all.1 }
+returns-clause-value c =
+    let xs = c.args.input.now in
+    let same : c.in_ok-input.input.now ≡ xs = search rules in
+    let long : length xs ≡ 64 = search rules in
+    entry-answered four xs (lit≤ tt) c.clamped.ensures (inverse_tests 16 xs c.args.output.now) (has long then search rules then tt)
+    (c.write_4x4.ensures.value ∙ ap (λ (ys : List ℤ). counted tally_one (unclamped four ys)) same)

@@ -11,8 +11,8 @@ use Rattle.idct_reduced.proofs.pass_4.Goals as goal
 pub returns : goal.returns
 unfolding tab
 returns c =
-    let s = c.args.shift in let x0 = descaled-read w32 s (record { sfits = c.descale_i32-arg-1.given }) c.descale_i32.ensures in
-    let x1 = descaled-read w32 s (record { sfits = c.descale_i32-arg-2-1.given }) c.descale_i32-2.ensures in
-    let x2 = descaled-read w32 s (record { sfits = c.descale_i32-arg-3-1.given }) c.descale_i32-3.ensures in
-    let x3 = descaled-read w32 s (record { sfits = c.descale_i32-arg-4-1.given }) c.descale_i32-4.ensures in
+    let s = c.args.shift in let x0 = descaled-read w32 s (record { sfits = c.descale_by-arg-1.given }) c.descale_by.ensures in
+    let x1 = descaled-read w32 s (record { sfits = c.descale_by-arg-2-1.given }) c.descale_by-2.ensures in
+    let x2 = descaled-read w32 s (record { sfits = c.descale_by-arg-3-1.given }) c.descale_by-3.ensures in
+    let x3 = descaled-read w32 s (record { sfits = c.descale_by-arg-4-1.given }) c.descale_by-4.ensures in
     (λ i. x0 i ∷ x1 i ∷ x2 i ∷ x3 i ∷ []) ∙ pass-read w32 gains4 four-rows s _ _ c.islow_1d_4-v.ensures

@@ -1,19 +1,20 @@
-use mathlib.Core.Path.{refl, subst}
+use mathlib.Core.Path.{◌≡◌, refl, subst, ◌∙◌}
 use native.Mathlib.Omega.{arith}
+use borrow.Author.Rules.{rules}
+use lib.ListN.{length, get_or}
+use lib.IntN.{pos}
+use mir.Syntax.{w16}
+use mir.ValLaws.{to_z-of_z}
 use Rattle.integers.specs.Linear.{listed}
 use Rattle.passes.specs.Passes.{four}
-use Rattle.block.proofs.Level.{Alone, rows-alone, dc-read, level-made}
 use Rattle.block.proofs.Rows.{first-all}
-use Rattle.block.proofs.Counts.{columns-made}
+use Rattle.block.proofs.Level.{Alone, rows-alone, dc-read, level-made}
 use Rattle.idct_reduced.proofs.write_4x4.Goals as goal
 
-pub returns-then-all_zero_i16 : goal.returns-then-all_zero_i16
+pub returns-then-all_zero : goal.returns-then-all_zero
 unfolding four listed
-returns-then-all_zero_i16 c =
-    let xs = c.args.input.now in let all = level-made four refl xs (subst Alone (first-all xs c.requires.0) (rows-alone 8 63 xs (omega arith) c.all_zero_i16.ensures c.if-all_zero_i16.true))
-    c.requires.1 (dc-read (omega (arith, c.coefficient.ensures.fits16.sfits)) c.coefficient.ensures.value) (c.put_level.ensures.value, c.put_level.ensures.output_after) in record { value = all.0; output_after = all.1 }
-
-pub returns : goal.returns
-unfolding four
-returns c =
-    let all = columns-made four _ c.columns_4-w.ensures (c.rows_4.ensures.value, c.rows_4.ensures.output_after) in record { value = all.0; output_after = all.1 }
+returns-then-all_zero c =
+    let xs = c.args.input.now in
+    let long : length xs ≡ 64 = omega arith in
+    let made = level-made four refl xs (subst Alone (first-all xs long) (rows-alone 8 63 xs (omega arith) c.all_zero.ensures c.if-all_zero.true)) c.requires.1 (dc-read c.from.type_inv (c.from.ensures ∙ to_z-of_z w16 (get_or xs 0 (pos 0)) (search rules))) (c.put_level.ensures.value, c.put_level.ensures.output_after) in
+    record { value = made.0; output_after = made.1 }

@@ -4,4 +4,4 @@ use Rattle.passes.proofs.Steps.{passed}
 use Rattle.passes.proofs.islow_pass1.Goals as goal
 
 pub returns : goal.returns
-returns c = passed w32 gains 11 _ c.islow_1d.ensures c.descale_8.ensures
+returns c = passed w32 gains 11 _ _ c.islow_1d.ensures c.descale_8.ensures

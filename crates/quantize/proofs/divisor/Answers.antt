@@ -1,11 +1,7 @@
-use native.Mathlib.Omega.{arith}
+use Rattle.std.proofs.Common.{arith}
 use Rattle.quantize.specs.Quantize.{divisor_of}
 use Rattle.quantize.proofs.divisor.Goals as goal
 
-pub returns-then-quantizer-eq0 : goal.returns-then-quantizer-eq0
-unfolding divisor_of
-returns-then-quantizer-eq0 c = omega arith
-
 pub returns : goal.returns
 unfolding divisor_of
-returns c = omega arith
+returns c = omega (arith, c.from.ensures, c.max.ensures)

@@ -13,7 +13,7 @@ use Rattle.quantize.proofs.quantize.Goals as goal
 
 -- |S|
 absolute : (c : goal.After-unsigned_abs) → c.unsigned_abs.result ≡ nat_abs c.args.scaled
-absolute c = c.unsigned_abs.ensures ∙ ap nat_abs (to_z-of_z w64 _ c.ranges.scaled)
+absolute c = c.unsigned_abs.ensures.value ∙ ap nat_abs (to_z-of_z w64 _ c.ranges.scaled)
 
 pub divide-division-requires : goal.divide-division-requires
 divide-division-requires c =

@@ -1,4 +1,3 @@
-use Prim.Native.Nat.{◌≤◌, ◌-◌}
 use mathlib.Core.Path.{◌≡◌}
 use lib.ListN.{get_or}
 use lib.IntN.{pos}
@@ -7,7 +6,4 @@ use Rattle.stored_blocks.specs.Screen.{passes}
 use Rattle.stored_blocks.proofs.all_pass.Given as goal
 
 abbrev pub invariant-loop-n : goal.invariant-loop-n
-invariant-loop-n l = (l.n ≤ 64) × (l.all ≡ below l.n (λ k. passes k (get_or l.quant k 0) (get_or l.coefficients k (pos 0))))
-
-abbrev pub decreases-loop-n : goal.decreases-loop-n
-decreases-loop-n l = 64 - l.n
+invariant-loop-n l = l.all ≡ below l.n (λ k. passes k (get_or l.quant k 0) (get_or l.coefficients k (pos 0)))

@@ -1,15 +1,10 @@
-use Rattle.refusals.proofs.Refusals.{has, lacks, ◌then◌, refused, accepted}
+use mathlib.Core.Path.{◌≡◌, ◌∙◌}
+use borrow.Author.Rules.{rules}
+use Rattle.refusals.specs.Numbers.{status_of}
+use Rattle.refusals.proofs.Refusals.{has, ◌then◌, failed}
 use Rattle.stored_blocks.proofs.dequantize.Goals as goal
 
-pub returns : goal.returns
-returns c =
-    let all = accepted _ _ _ (has c.if-coefficients-ne64.false then has c.if-quant-ne64.false then has c.if-out-ne64.false then tt) c.write_products.ensures in record { value = all.0; out_after = all.1 }
-
-pub returns-then-coefficients-ne64 : goal.returns-then-coefficients-ne64
-returns-then-coefficients-ne64 c = let all = refused _ _ _ 0 (lacks c.if-coefficients-ne64.true then tt) in record { value = all.0; out_after = all.1 }
-
-pub returns-then-quant-ne64 : goal.returns-then-quant-ne64
-returns-then-quant-ne64 c = let all = refused _ _ _ 1 (has c.if-coefficients-ne64.false then lacks c.if-quant-ne64.true then tt) in record { value = all.0; out_after = all.1 }
-
-pub returns-then-out-ne64 : goal.returns-then-out-ne64
-returns-then-out-ne64 c = let all = refused _ _ _ 2 (has c.if-coefficients-ne64.false then has c.if-quant-ne64.false then lacks c.if-out-ne64.true then tt) in record { value = all.0; out_after = all.1 }
+pub returns-in_err-unless-clause-value : goal.returns-in_err-unless-clause-value
+returns-in_err-unless-clause-value c =
+    let three : status_of c.from_residual-in_err-unless.result ≡ 3 = search rules in
+    three ∙ failed 2 _ (has (search rules) then has (search rules) then search rules then tt)

@@ -1,9 +1,5 @@
-use Prim.Native.Nat.{◌-◌}
 use Rattle.bench_queue.proofs.Blocks.{Running}
 use Rattle.bench_queue.proofs.BenchQueue.code_blocks.Given as goal
 
 abbrev pub invariant-loop-listed : goal.invariant-loop-listed
 invariant-loop-listed l = Running l.l l.initial.state l.initial.out l.listed l.state l.out
-
-abbrev pub decreases-loop-listed : goal.decreases-loop-listed
-decreases-loop-listed l = l.l - l.listed

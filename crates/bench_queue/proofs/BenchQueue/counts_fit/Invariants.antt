@@ -1,4 +1,3 @@
-use Prim.Native.Nat.{◌≤◌, ◌-◌}
 use mathlib.Core.Path.{◌≡◌}
 use lib.Dec.{leb}
 use Rattle.lists.specs.Below.{below}
@@ -6,7 +5,4 @@ use Rattle.bench_queue.specs.State.{waiting_at, most_waiting}
 use Rattle.bench_queue.proofs.BenchQueue.counts_fit.Given as goal
 
 abbrev pub invariant-loop-b : goal.invariant-loop-b
-invariant-loop-b l = (l.b ≤ 8) × (l.fit ≡ below l.b (λ k. leb (waiting_at l.self k) (most_waiting l.self.benches k)))
-
-abbrev pub decreases-loop-b : goal.decreases-loop-b
-decreases-loop-b l = 8 - l.b
+invariant-loop-b l = l.fit ≡ below l.b (λ k. leb (waiting_at l.self k) (most_waiting l.self.benches k))

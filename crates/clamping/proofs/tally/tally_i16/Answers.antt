@@ -1,17 +1,12 @@
-use Prim.Native.Nat.{◌+◌}
-use mathlib.Core.Path.{◌≡◌, ap₂}
-use native.Mathlib.Omega.{arith}
+use Rattle.std.proofs.Common.{◌∙◌, ◌+◌, ◌*◌, pos}
 use mir.Facts.{to_z-of_z}
-use Rattle.clamping.specs.Rule.{rule_u8}
-use Rattle.clamping.specs.Counts.{tally_one}
-use Rattle.clamping.proofs.ByRule.{tally-most}
+use lib.IntN.{negsuc}
+use lib.Signed.{lt_z}
+use Rattle.std.specs.Int.{from_bool}
+use Rattle.clamping.proofs.ByRule.{tally-16}
 use Rattle.clamping.proofs.tally.tally_i16.Goals as goal
 
-tally : (c : goal.After-lowered_i16) → c.raised_i16.result + c.lowered_i16.result ≡ tally_one (rule_u8 c.args.value)
-tally c = let f = c.ranges.value in ap₂ ◌+◌ (rw (to_z-of_z f) at c.raised_i16.ensures) (rw (to_z-of_z f) at c.lowered_i16.ensures)
-
-pub overflow_add-result : goal.overflow_add-result
-overflow_add-result c = record { fits = omega (arith, tally c, tally-most (rule_u8 c.args.value)) }
-
 pub returns : goal.returns
-returns c = tally c
+returns c =
+    let v = to_z-of_z c.ranges.value in
+    (λ i. c.from.ensures i + 256 * c.from-2.ensures i) ∙ (λ i. from_bool (lt_z (v i) (negsuc 127)) + 256 * from_bool (lt_z (pos 127) (v i))) ∙ tally-16 c.args.value c.ranges.value

@@ -20,17 +20,17 @@ small : (z : ℤ) {n : ℕ} → SFits w16 z → n ≡ nat_abs (to_z w64 (of_z w6
 small z s e = omega (arith, size z s e, size_small z s)
 
 pub put_digits-requires-clause-n_bound : goal.put_digits-requires-clause-n_bound
-put_digits-requires-clause-n_bound c = small _ c.ranges.z c.unsigned_abs-size.ensures
+put_digits-requires-clause-n_bound c = small _ c.ranges.z c.unsigned_abs-size.ensures.value
 
 pub returns-then-z-lt0 : goal.returns-then-z-lt0
 returns-then-z-lt0 c =
-    let bytes = ap (λ (n : ℕ). 45 ∷ digits 5 n) (size _ c.ranges.z c.unsigned_abs-size.ensures) ∙ decimal-negative c.args.z (rw (to_z-of_z w16 c.args.z c.ranges.z) at c.if-z-lt0.true) in
+    let bytes = ap (λ (n : ℕ). 45 ∷ digits 5 n) (size _ c.ranges.z c.unsigned_abs-size.ensures.value) ∙ decimal-negative c.args.z (rw (to_z-of_z w16 c.args.z c.ranges.z) at c.if-z-lt0.true) in
     wrote_as bytes (wrote_then (wrote_one _ _ 45) c.put_digits.ensures)
 
 pub put_digits-requires-2-clause-n_bound : goal.put_digits-requires-2-clause-n_bound
-put_digits-requires-2-clause-n_bound c = small _ c.ranges.z c.unsigned_abs-size.ensures
+put_digits-requires-2-clause-n_bound c = small _ c.ranges.z c.unsigned_abs-size.ensures.value
 
 pub returns : goal.returns
 returns c =
-    let bytes = ap (digits 5) (size _ c.ranges.z c.unsigned_abs-size.ensures) ∙ decimal-other c.args.z (rw (to_z-of_z w16 c.args.z c.ranges.z) at c.if-z-lt0.false) in
+    let bytes = ap (digits 5) (size _ c.ranges.z c.unsigned_abs-size.ensures.value) ∙ decimal-other c.args.z (rw (to_z-of_z w16 c.args.z c.ranges.z) at c.if-z-lt0.false) in
     wrote_as bytes (wrote-within 6 (omega arith) c.put_digits-2.ensures)

@@ -1,28 +1,18 @@
-use mathlib.Core.Path.{sym, ap, ◌∙◌}
-use borrow.Author.Tests.{not-true, not-false}
-use Rattle.refusals.proofs.Refusals.{has, lacks, ◌then◌, refused, accepted}
-use Rattle.forward.specs.Canonical.{coefficients12bit}
+use mathlib.Core.Path.{◌≡◌, ◌∙◌}
+use mathlib.Core.Bool.{true}
+use borrow.Author.Rules.{rules}
+use Rattle.refusals.specs.Numbers.{status_of}
+use Rattle.refusals.proofs.Refusals.{has, ◌then◌, failed}
+use Rattle.forward.specs.Canonical.{up_to}
 use Rattle.fdct.proofs.Small.{level-12bit}
 use Rattle.fdct.proofs.twelve_bit.fdct_quantize_12bit.Goals as goal
 
-pub returns-then-not-is_12bit : goal.returns-then-not-is_12bit
-returns-then-not-is_12bit c =
-    let all = refused _ _ _ 3 (has c.if-block-ne64.false then has c.if-quant-ne64.false then has c.if-out-ne64.false then (sym c.is_12bit.ensures ∙ not-true c.is_12bit.result c.if-not-is_12bit.true-raw) then tt) in record { value = all.0; out_after = all.1 }
+pub returns-in_err-unless-clause-value : goal.returns-in_err-unless-clause-value
+returns-in_err-unless-clause-value c =
+    let three : status_of c.from_residual-in_err-unless.result ≡ 3 = search rules in
+    three ∙ failed 2 _ (has (search rules) then has (search rules) then search rules then tt)
 
-pub write_centred-requires : goal.write_centred-requires
-write_centred-requires c =
-    record { block_len = (c.if-block-ne64.false, c.if-out-ne64.false); level = level-12bit _ ((sym c.is_12bit.ensures ∙ not-false c.is_12bit.result c.if-not-is_12bit.false-raw)) }
-
-pub returns : goal.returns
-returns c =
-    let all = accepted _ _ _ (has c.if-block-ne64.false then has c.if-quant-ne64.false then has c.if-out-ne64.false then (sym c.is_12bit.ensures ∙ not-false c.is_12bit.result c.if-not-is_12bit.false-raw) then tt)
-    (c.write_centred.ensures ∙ ap (coefficients12bit c.args.block.now) c.copied.ensures) in record { value = all.0; out_after = all.1 }
-
-pub returns-then-block-ne64 : goal.returns-then-block-ne64
-returns-then-block-ne64 c = let all = refused _ _ _ 0 (lacks c.if-block-ne64.true then tt) in record { value = all.0; out_after = all.1 }
-
-pub returns-then-quant-ne64 : goal.returns-then-quant-ne64
-returns-then-quant-ne64 c = let all = refused _ _ _ 1 (has c.if-block-ne64.false then lacks c.if-quant-ne64.true then tt) in record { value = all.0; out_after = all.1 }
-
-pub returns-then-out-ne64 : goal.returns-then-out-ne64
-returns-then-out-ne64 c = let all = refused _ _ _ 2 (has c.if-block-ne64.false then has c.if-quant-ne64.false then lacks c.if-out-ne64.true then tt) in record { value = all.0; out_after = all.1 }
+pub write_centred-requires-clause-level : goal.write_centred-requires-clause-level
+write_centred-requires-clause-level c =
+    let t : up_to 4095 c.in_ok-block.block.now ≡ true = search rules in
+    level-12bit _ t

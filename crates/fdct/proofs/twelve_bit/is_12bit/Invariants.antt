@@ -1,4 +1,3 @@
-use Prim.Native.Nat.{◌≤◌, ◌-◌}
 use mathlib.Core.Path.{◌≡◌}
 use lib.Dec.{leb}
 use lib.ListN.{get_or}
@@ -6,7 +5,4 @@ use Rattle.lists.specs.Below.{below}
 use Rattle.fdct.proofs.twelve_bit.is_12bit.Given as goal
 
 abbrev pub invariant-loop-i : goal.invariant-loop-i
-invariant-loop-i l = (l.i ≤ 64) × (l.all ≡ below l.i (λ k. leb (get_or l.block k 0) 4095))
-
-abbrev pub decreases-loop-i : goal.decreases-loop-i
-decreases-loop-i l = 64 - l.i
+invariant-loop-i l = l.all ≡ below l.i (λ k. leb (get_or l.block k 0) 4095)

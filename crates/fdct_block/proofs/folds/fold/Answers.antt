@@ -1,14 +1,14 @@
-use Prim.Native.Nat.{ℕ, ◌+◌, ◌-◌, ◌*◌, ◌/◌, ◌%◌, ◌^◌, ◌<◌, ◌≤◌}
+use Prim.Native.Nat.{ℕ, ◌+◌, ◌*◌, ◌/◌, ◌%◌, ◌^◌, ◌<◌, ◌≤◌}
 use mathlib.Core.Path.{◌≡◌, refl, sym, ap, subst, ◌∙◌}
 use mathlib.Core.List.{List}
 use native.Mathlib.Omega.{arith}
-use lib.ListN.{get_or}
-use lib.IntN.{ℤ, pos, nat_abs}
+use lib.IntN.{ℤ, nat_abs}
 use mir.Syntax.{w16}
 use mir.Val.{to_z, of_z}
 use Rattle.lists.proofs.Tab.{Filled, none, more, all}
 use Rattle.forward.specs.Parity.{folded, folded_quadrant}
 use Rattle.forward.proofs.Scaled.{fold-size}
+use Rattle.fdct_block.specs.Ready.{Folded}
 use Rattle.fdct_block.proofs.Narrow.{kept}
 use Rattle.fdct_block.proofs.folds.fold.Invariants.{at}
 use Rattle.fdct_block.proofs.folds.fold.Goals as goal
@@ -30,10 +30,10 @@ loop-y-preserved c =
     let v2 = read' 2 y (omega arith) c.fold_at-third.result c.fold_at-third.ensures.value c.fold_at-third.ensures.result_bound in
     let v3 = read' 3 y (omega arith) c.fold_at-fourth.result c.fold_at-fourth.ensures.value c.fold_at-fourth.ensures.result_bound in
     let zero' : 4 * y + 0 ≡ 4 * y = omega arith in
-    let s1 = more g 16 (4 * y) (4 * y + 1) _ _ c.loop-y.invariant.1 (omega arith) refl (v0 ∙ ap g zero') in
+    let s1 = more g 16 (4 * y) (4 * y + 1) _ _ c.loop-y.invariant (omega arith) refl (v0 ∙ ap g zero') in
     let s2 = more g 16 (4 * y + 1) (4 * y + 2) _ _ s1 (omega arith) (omega arith) v1 in
     let s3 = more g 16 (4 * y + 2) (4 * y + 3) _ _ s2 (omega arith) (omega arith) v2 in
-    (omega arith, more g 16 (4 * y + 3) (4 * (y + 1)) _ _ s3 (omega arith) (omega arith) v3)
+    more g 16 (4 * y + 3) (4 * (y + 1)) _ _ s3 (omega arith) (omega arith) v3
 
 whole : (c : List ℤ) (u v : ℕ) (f : List ℤ) (y : ℕ) → Filled (at c u v) 16 (4 * y) f → y ≤ 4 → 4 ≤ y → f ≡ folded_quadrant c u v
 unfolding folded_quadrant
@@ -41,19 +41,12 @@ whole c u v f y h a b = all (at c u v) 16 (4 * y) f h (omega arith) (omega arith
 
 pub returns : goal.returns
 returns c =
-    let l = c.loop-y in let e = whole c.args.samples.now c.args.u c.args.v _ l.y l.invariant.1 (omega arith) (omega arith) in record { quadrant_after = e; by_index_2 = λ k. subst (λ (f : List ℤ). nat_abs (get_or f k (pos 0)) ≤ 2 ^ 13) (sym e) (omega (arith, fold-size c.args.samples.now (2 ^ 11) c.requires.by_index c.args.u c.args.v k)) }
+    let l = c.loop-y in
+    let e = whole c.args.samples.now c.args.u c.args.v _ l.y l.invariant (omega arith) (omega arith) in
+    record {
+      quadrant_after = e;
+      folded = subst Folded (sym e) (λ k. omega (arith, fold-size c.args.samples.now (2 ^ 11) c.requires.centred c.args.u c.args.v k));
+    }
 
 pub loop-y-init : goal.loop-y-init
-loop-y-init c = (omega arith, none _ 16 _ c.requires.quadrant_len)
-
-pub fold_at-first-requires : goal.fold_at-first-requires
-fold_at-first-requires c = record { by_index = c.requires.by_index; x_bound = (omega arith, omega arith) }
-
-pub fold_at-second-requires : goal.fold_at-second-requires
-fold_at-second-requires c = record { by_index = c.requires.by_index; x_bound = (omega arith, omega arith) }
-
-pub fold_at-third-requires : goal.fold_at-third-requires
-fold_at-third-requires c = record { by_index = c.requires.by_index; x_bound = (omega arith, omega arith) }
-
-pub fold_at-fourth-requires : goal.fold_at-fourth-requires
-fold_at-fourth-requires c = record { by_index = c.requires.by_index; x_bound = (omega arith, omega arith) }
+loop-y-init c = none _ 16 _ c.told-quadrant

@@ -1,4 +1,4 @@
-use Prim.Native.Nat.{ℕ, ◌-◌, ◌*◌, ◌/◌, ◌%◌, ◌≤◌}
+use Prim.Native.Nat.{ℕ, ◌*◌, ◌/◌, ◌%◌}
 use mathlib.Core.List.{List}
 use lib.IntN.{ℤ}
 use Rattle.lists.proofs.Tab.{Filled}
@@ -9,7 +9,4 @@ abbrev pub at : List ℤ → ℕ → ℕ → ℕ → ℤ
 at c u v k = folded c u v (k % 4) (k / 4)
 
 abbrev pub invariant-loop-y : goal.invariant-loop-y
-invariant-loop-y l = (l.y ≤ 4) × Filled (at l.samples l.u l.v) 16 (4 * l.y) l.quadrant
-
-abbrev pub decreases-loop-y : goal.decreases-loop-y
-decreases-loop-y l = 4 - l.y
+invariant-loop-y l = Filled (at l.samples l.u l.v) 16 (4 * l.y) l.quadrant

@@ -1,16 +1,12 @@
-use Prim.Native.Nat.{ℕ, ◌*◌, ◌≤◌}
-use native.Mathlib.Nat.{mul-le-mul}
+use mathlib.Core.Path.{◌≡◌}
+use Prim.Native.Nat.{◌*◌}
 use native.Mathlib.Omega.{arith}
+use lib.IntN.{pos, nat_abs, ◌-ℤ◌}
+use Rattle.integers.proofs.Difference.{distance}
 use Rattle.fewest.specs.Fewest.{squared}
 use Rattle.fewest.proofs.block_trial.squared_difference.Goals as goal
 
-most : (d : ℕ) → d ≤ 255 → d * d ≤ 65025
-most d h = mul-le-mul h h
-
-pub returns : goal.returns
+pub returns-clause-value : goal.returns-clause-value
 unfolding squared
-returns c =
-    let d = c.distance-d in record { value = (λ i. d.ensures i * d.ensures i); upper_bound = most d.result (omega arith) }
-
-pub overflow_mul-result : goal.overflow_mul-result
-overflow_mul-result c = record { fits = omega (arith, most c.distance-d.result (omega arith)) }
+returns-clause-value c =
+    let d : c.from-d.result ≡ nat_abs (pos c.args.a -ℤ pos c.args.b) = omega (arith, distance c.args.a c.args.b) in λ i. d i * d i

@@ -4,4 +4,4 @@ use Rattle.passes.proofs.Steps.{passed}
 use Rattle.idct_12bit.proofs.eight.pass_8.Goals as goal
 
 pub returns : goal.returns
-returns c = passed w64 gains _ _ c.islow_1d_i64-q.ensures c.descale_each.ensures
+returns c = passed w64 gains _ _ _ c.islow_1d-q.ensures c.descale_each.ensures

@@ -1,4 +1,3 @@
-use Prim.Native.Nat.{◌-◌}
 use mir.Syntax.{w64}
 use Rattle.gains.specs.Gains.{gains}
 use Rattle.clamping.specs.Clamping.{sample12bit}
@@ -8,6 +7,3 @@ use Rattle.idct_12bit.proofs.eight.rows_8.Given as goal
 
 abbrev pub invariant-loop-y : goal.invariant-loop-y
 invariant-loop-y l = Stored (pass w64 gains 17) sample12bit 8 l.w l.y l.output
-
-abbrev pub decreases-loop-y : goal.decreases-loop-y
-decreases-loop-y l = 8 - l.y

@@ -1,7 +1,5 @@
-use Prim.Native.Nat.{◌-◌}
 use mathlib.Core.Path.{refl}
 use native.Mathlib.Omega.{arith}
-use borrow.Author.Rules.{rules}
 use mir.Syntax.{w64}
 use Rattle.lists.proofs.Tab.{none, next, filled}
 use Rattle.gains.specs.Gains.{skipped4}
@@ -16,29 +14,9 @@ pub loop-u-init : goal.loop-u-init
 unfolding columns
 loop-u-init c = none _ 8 _ refl
 
-pub load_column_4-requires : goal.load_column_4-requires
-unfolding columns
-load_column_4-requires c = search rules
-
 pub column_4-requires : goal.column_4-requires
 unfolding columns
 column_4-requires c = c.load_column_4.ensures.every
-
-pub offset_bounds-w-u : goal.offset_bounds-w-u
-unfolding columns
-offset_bounds-w-u c = omega arith
-
-pub bounds-w-u : goal.bounds-w-u
-unfolding columns
-bounds-w-u c = omega arith
-
-pub overflow_add-u : goal.overflow_add-u
-unfolding columns
-overflow_add-u c = omega arith
-
-pub loop-u-smaller : goal.loop-u-smaller
-unfolding columns
-loop-u-smaller c = omega arith
 
 pub returns : goal.returns
 unfolding columns

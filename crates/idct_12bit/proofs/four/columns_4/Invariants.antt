@@ -1,4 +1,3 @@
-use Prim.Native.Nat.{◌-◌}
 use mir.Syntax.{w64}
 use Rattle.lists.proofs.Tab.{Filled}
 use Rattle.gains.specs.Gains.{gains4}
@@ -8,6 +7,3 @@ use Rattle.idct_12bit.proofs.four.columns_4.Given as goal
 
 abbrev pub invariant-loop-u : goal.invariant-loop-u
 invariant-loop-u l = Filled (λ k. pass w64 gains4 13 (column_of l.input k)) 8 l.u l.w
-
-abbrev pub decreases-loop-u : goal.decreases-loop-u
-decreases-loop-u l = 8 - l.u

@@ -1,4 +1,3 @@
-use Prim.Native.Nat.{◌-◌}
 use mir.Syntax.{w64}
 use Rattle.lists.proofs.Tab.{Filled}
 use Rattle.gains.specs.Gains.{gains4}
@@ -8,6 +7,3 @@ use Rattle.idct_12bit.proofs.four.pass_rows_4.Given as goal
 
 abbrev pub invariant-loop-y : goal.invariant-loop-y
 invariant-loop-y l = Filled (λ k. pass w64 gains4 18 (row_of l.w k)) 4 l.y l.r
-
-abbrev pub decreases-loop-y : goal.decreases-loop-y
-decreases-loop-y l = 4 - l.y

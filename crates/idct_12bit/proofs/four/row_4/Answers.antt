@@ -4,4 +4,4 @@ use Rattle.passes.proofs.Steps.{passed}
 use Rattle.idct_12bit.proofs.four.row_4.Goals as goal
 
 pub returns : goal.returns
-returns c = passed w64 gains4 18 _ c.islow_1d_4_i64-q.ensures c.descale_each.ensures
+returns c = passed w64 gains4 18 _ _ c.islow_1d_4-q.ensures c.descale_each.ensures

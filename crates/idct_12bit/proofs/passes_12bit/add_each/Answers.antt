@@ -1,4 +1,3 @@
-use Prim.Native.Nat.{◌-◌}
 use mathlib.Core.Path.{ap, ◌∙◌}
 use mathlib.Core.List.{map}
 use native.Mathlib.Omega.{arith}
@@ -16,7 +15,7 @@ pub loop-i-preserved : goal.loop-i-preserved
 loop-i-preserved c =
     let x = to_z w32 (of_z w32 c.args.x) in
     let v = get_or c.loop-i.values c.loop-i.i (pos 0) in
-    each_more c.loop-i.invariant (omega arith) (wrap-read w32 (v +ℤ x) (c.wrapping_add_i32.ensures ∙ ap (λ (t : ℤ). wrap w32 (t +ℤ x)) (to_z-of_z w32 v (record { sfits = c.wrapping_add_i32-arg-1.given }))))
+    each_more c.loop-i.invariant (omega arith) (wrap-read w32 (v +ℤ x) (c.add.ensures ∙ ap (λ (t : ℤ). wrap w32 (t +ℤ x)) (to_z-of_z w32 v (record { sfits = c.add-arg-1.given }))))
 
 pub returns : goal.returns
 returns c =
@@ -24,6 +23,3 @@ returns c =
 
 pub loop-i-init : goal.loop-i-init
 loop-i-init c = each_none
-
-pub shape_of-values : goal.shape_of-values
-shape_of-values c = c.loop-i.invariant.front.long

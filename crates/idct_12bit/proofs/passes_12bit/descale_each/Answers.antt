@@ -1,4 +1,3 @@
-use Prim.Native.Nat.{◌-◌}
 use native.Mathlib.Omega.{arith}
 use mir.Syntax.{w64}
 use Rattle.scaling.proofs.Rounding.{descaled-read}
@@ -6,13 +5,10 @@ use Rattle.idct_12bit.proofs.Each.{each_none, each_more, each_all}
 use Rattle.idct_12bit.proofs.passes_12bit.descale_each.Goals as goal
 
 pub loop-i-preserved : goal.loop-i-preserved
-loop-i-preserved c = each_more c.loop-i.invariant (omega arith) (descaled-read w64 _ (record { sfits = c.descale_i64-arg-1.given }) c.descale_i64.ensures)
+loop-i-preserved c = each_more c.loop-i.invariant (omega arith) (descaled-read w64 _ (record { sfits = c.descale_by-arg-1.given }) c.descale_by.ensures)
 
 pub loop-i-init : goal.loop-i-init
 loop-i-init c = each_none
-
-pub shape_of-values : goal.shape_of-values
-shape_of-values c = c.loop-i.invariant.front.long
 
 pub returns : goal.returns
 returns c = each_all c.loop-i.invariant (omega arith)

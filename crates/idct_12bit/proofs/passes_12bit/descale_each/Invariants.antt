@@ -1,5 +1,3 @@
-use Prim.Native.Nat.{◌-◌}
-use lib.ListN.{length}
 use lib.IntN.{pos}
 use mir.Syntax.{w64}
 use Rattle.scaling.specs.Scaling.{descaled}
@@ -8,6 +6,3 @@ use Rattle.idct_12bit.proofs.passes_12bit.descale_each.Given as goal
 
 abbrev pub invariant-loop-i : goal.invariant-loop-i
 invariant-loop-i l = Each (λ v. descaled w64 v l.shift) (pos 0) l.initial.values l.i l.values
-
-abbrev pub decreases-loop-i : goal.decreases-loop-i
-decreases-loop-i l = length l.initial.values - l.i

@@ -1,4 +1,3 @@
-use Prim.Native.Nat.{◌-◌}
 use lib.ListN.{get_or}
 use lib.IntN.{pos}
 use Rattle.lists.proofs.Tab.{Filled}
@@ -6,6 +5,3 @@ use Rattle.idct_12bit.proofs.passes_12bit.widen_8.Given as goal
 
 abbrev pub invariant-loop-i : goal.invariant-loop-i
 invariant-loop-i l = Filled (λ k. get_or l.p k (pos 0)) 8 l.i l.out
-
-abbrev pub decreases-loop-i : goal.decreases-loop-i
-decreases-loop-i l = 8 - l.i

@@ -11,8 +11,8 @@ use Rattle.idct_12bit.proofs.samples_12bit.low_32.Goals as goal
 
 pub returns : goal.returns
 returns c =
-    let bits = c.to_bits_i64.ensures ∙ ap (of_z w64) (to_z-of_z w64 c.args.x c.ranges.x) in
-    wrap-read w32 c.args.x (c.from_bits_u32.ensures ∙ ap (λ (n : ℕ). to_z w32 (n % 2 ^ 32)) bits ∙ low_bits c.args.x c.ranges.x)
+    let bits = c.cast_unsigned.ensures ∙ ap (of_z w64) (to_z-of_z w64 c.args.x c.ranges.x) in
+    wrap-read w32 c.args.x (c.cast_signed.ensures ∙ ap (λ (n : ℕ). to_z w32 (n % 2 ^ 32)) bits ∙ low_bits c.args.x c.ranges.x)
 
-pub overflow_cast-to_bits_i64 : goal.overflow_cast-to_bits_i64
-overflow_cast-to_bits_i64 c = record { fits = mod-lt c.to_bits_i64.result (lit< tt) }
+pub overflow_cast-cast_unsigned : goal.overflow_cast-cast_unsigned
+overflow_cast-cast_unsigned c = record { fits = mod-lt c.cast_unsigned.result (lit< tt) }

@@ -1,21 +1,17 @@
-use Prim.Native.Nat.{◌-◌}
+use mathlib.Core.Path.{ap, ◌∙◌}
 use native.Mathlib.Omega.{arith}
+use borrow.Author.Rules.{rules}
+use lib.ListN.{get_or}
+use lib.IntN.{pos}
 use mir.Syntax.{w64}
 use mir.ValLaws.{to_z-of_z}
-use Rattle.block.proofs.Store.{pasted-none, pasted-more, pasted-all}
+use Rattle.clamping.specs.Clamping.{sample12bit}
+use Rattle.block.proofs.Store.{pasted-more}
 use Rattle.idct_12bit.proofs.samples_12bit.put_row_small.Goals as goal
 
-pub loop-k-init : goal.loop-k-init
-loop-k-init c = pasted-none
-
 pub sample_small-requires : goal.sample_small-requires
-sample_small-requires c = rw (to_z-of_z w64 _ (record { sfits = c.sample_small-arg-1.given })) (c.requires.at_most c.loop-k.k)
+sample_small-requires c = rw (to_z-of_z w64 (get_or c.args.q.now c.loop-k.k (pos 0)) (search rules)) (c.requires.at_most c.loop-k.k)
 
 pub loop-k-preserved : goal.loop-k-preserved
-loop-k-preserved c = pasted-more w64 c.loop-k.invariant (omega arith) (omega arith) c.sample_small-arg-1.given c.sample_small.ensures
-
-pub shape_of-output : goal.shape_of-output
-shape_of-output c = c.loop-k.invariant.long
-
-pub returns : goal.returns
-returns c = pasted-all c.loop-k.invariant (omega arith)
+loop-k-preserved c =
+    pasted-more c.loop-k.invariant (omega arith) (omega arith) (pos 0) (c.sample_small.ensures ∙ ap sample12bit (to_z-of_z w64 (get_or c.args.q.now c.loop-k.k (pos 0)) (search rules)))

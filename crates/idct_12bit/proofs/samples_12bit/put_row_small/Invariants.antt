@@ -1,11 +1,6 @@
-use Prim.Native.Nat.{◌-◌}
-use lib.ListN.{length}
 use Rattle.clamping.specs.Clamping.{sample12bit}
 use Rattle.block.proofs.Store.{Pasted}
 use Rattle.idct_12bit.proofs.samples_12bit.put_row_small.Given as goal
 
 abbrev pub invariant-loop-k : goal.invariant-loop-k
 invariant-loop-k l = Pasted sample12bit l.initial.output l.at l.q l.k l.output
-
-abbrev pub decreases-loop-k : goal.decreases-loop-k
-decreases-loop-k l = length l.q - l.k

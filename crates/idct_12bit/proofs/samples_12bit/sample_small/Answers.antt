@@ -10,25 +10,25 @@ use Rattle.idct_12bit.proofs.samples_12bit.sample_small.Goals as goal
 
 pub overflow_cast-result : goal.overflow_cast-result
 overflow_cast-result c =
-    let k = kept 4095 ((let it : to_z w32 (of_z w32 c.wrapping_add_i32-shifted.result) ≡ c.args.value +ℤ pos 2048 = moved c.ranges.value c.requires c.low_32.ensures c.wrapping_add_i32-shifted.ensures in it)) c.if-shifted-lt0.false c.if-shifted-gt4095.false in
+    let k = kept 4095 ((let it : to_z w32 (of_z w32 c.add-shifted.result) ≡ c.args.value +ℤ pos 2048 = moved c.ranges.value c.requires c.low_32.ensures c.add-shifted.ensures in it)) c.if-shifted-lt0.false c.if-shifted-gt4095.false in
     (k.0, record { fits = omega (arith, k.1) })
 
 pub low_32-requires : goal.low_32-requires
 unfolding sample12bit
 low_32-requires c = tt
 
-pub wrapping_add_i32-shifted-requires : goal.wrapping_add_i32-shifted-requires
+pub add-shifted-requires : goal.add-shifted-requires
 unfolding sample12bit
-wrapping_add_i32-shifted-requires c = tt
+add-shifted-requires c = tt
 
 pub returns-then-shifted-lt0 : goal.returns-then-shifted-lt0
 unfolding sample12bit
-returns-then-shifted-lt0 c = clamp-low 4095 ((let it : to_z w32 (of_z w32 c.wrapping_add_i32-shifted.result) ≡ c.args.value +ℤ pos 2048 = moved c.ranges.value c.requires c.low_32.ensures c.wrapping_add_i32-shifted.ensures in it)) c.if-shifted-lt0.true
+returns-then-shifted-lt0 c = clamp-low 4095 ((let it : to_z w32 (of_z w32 c.add-shifted.result) ≡ c.args.value +ℤ pos 2048 = moved c.ranges.value c.requires c.low_32.ensures c.add-shifted.ensures in it)) c.if-shifted-lt0.true
 
 pub returns-then-shifted-gt4095 : goal.returns-then-shifted-gt4095
 unfolding sample12bit
-returns-then-shifted-gt4095 c = clamp-high 4095 ((let it : to_z w32 (of_z w32 c.wrapping_add_i32-shifted.result) ≡ c.args.value +ℤ pos 2048 = moved c.ranges.value c.requires c.low_32.ensures c.wrapping_add_i32-shifted.ensures in it)) c.if-shifted-gt4095.true
+returns-then-shifted-gt4095 c = clamp-high 4095 ((let it : to_z w32 (of_z w32 c.add-shifted.result) ≡ c.args.value +ℤ pos 2048 = moved c.ranges.value c.requires c.low_32.ensures c.add-shifted.ensures in it)) c.if-shifted-gt4095.true
 
 pub returns : goal.returns
 unfolding sample12bit
-returns c = (kept 4095 ((let it : to_z w32 (of_z w32 c.wrapping_add_i32-shifted.result) ≡ c.args.value +ℤ pos 2048 = moved c.ranges.value c.requires c.low_32.ensures c.wrapping_add_i32-shifted.ensures in it)) c.if-shifted-lt0.false c.if-shifted-gt4095.false).2
+returns c = (kept 4095 ((let it : to_z w32 (of_z w32 c.add-shifted.result) ≡ c.args.value +ℤ pos 2048 = moved c.ranges.value c.requires c.low_32.ensures c.add-shifted.ensures in it)) c.if-shifted-lt0.false c.if-shifted-gt4095.false).2

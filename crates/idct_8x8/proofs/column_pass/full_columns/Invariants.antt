@@ -1,11 +1,7 @@
-use Prim.Native.Nat.{◌-◌}
 use Rattle.lists.proofs.Tab.{Filled}
 use Rattle.passes.specs.Passes.{eight, column_pass}
 use Rattle.block.specs.Block.{column_of, first_rows}
 use Rattle.idct_8x8.proofs.column_pass.full_columns.Given as goal
 
 abbrev pub invariant-loop-u : goal.invariant-loop-u
-invariant-loop-u l = Filled (λ k. column_pass eight (column_of (first_rows 8 l.input) k)) 8 l.u l.w
-
-abbrev pub decreases-loop-u : goal.decreases-loop-u
-decreases-loop-u l = 8 - l.u
+invariant-loop-u g l = Filled (λ k. column_pass eight (column_of (first_rows g.row.ROWS l.input) k)) 8 l.u l.w

@@ -1,4 +1,3 @@
-use Prim.Native.Nat.{◌-◌}
 use mathlib.Core.Path.{◌≡◌}
 use lib.ListN.{take}
 use Rattle.lists.specs.Every.{every}
@@ -8,7 +7,4 @@ use Rattle.idct_8x8.proofs.Shortcut.{full}
 use Rattle.idct_8x8.proofs.column_pass.no_shortcut.Given as goal
 
 abbrev pub invariant-loop-u : goal.invariant-loop-u
-invariant-loop-u l = l.all ≡ every full (take l.u (tab 8 (column_of (first_rows 8 l.input))))
-
-abbrev pub decreases-loop-u : goal.decreases-loop-u
-decreases-loop-u l = 8 - l.u
+invariant-loop-u g l = l.all ≡ every full (take l.u (tab 8 (column_of (first_rows g.row.ROWS l.input))))

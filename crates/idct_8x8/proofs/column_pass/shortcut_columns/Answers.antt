@@ -1,42 +1,15 @@
-use Prim.Native.Nat.{◌-◌}
 use mathlib.Core.Path.{ap, ◌∙◌}
 use native.Mathlib.Omega.{arith}
-use borrow.Author.Rules.{rules}
 use Rattle.lists.proofs.Tab.{none, next, filled}
 use Rattle.passes.specs.Passes.{eight, column_pass}
 use Rattle.block.specs.Block.{columns}
 use Rattle.idct_8x8.proofs.column_pass.shortcut_columns.Goals as goal
 
-pub loop-u-preserved : goal.loop-u-preserved
-loop-u-preserved c = next c.loop-u.invariant (omega arith) (c.islow_column.ensures ∙ ap (column_pass eight) c.load_column_i32.ensures)
-
 pub loop-u-init : goal.loop-u-init
-unfolding columns
-loop-u-init c = none _ 8 _ c.requires.input_len.1
+loop-u-init c = none _ 8 _ (omega arith)
 
-pub load_column_i32-requires : goal.load_column_i32-requires
-unfolding columns
-load_column_i32-requires c = record { input_len = c.requires.input_len.0; rows_bound = (c.requires.rows_bound, omega arith) }
-
-pub islow_column-requires : goal.islow_column-requires
-unfolding columns
-islow_column-requires c = search rules
-
-pub offset_bounds-w-u : goal.offset_bounds-w-u
-unfolding columns
-offset_bounds-w-u c = omega arith
-
-pub bounds-w-u : goal.bounds-w-u
-unfolding columns
-bounds-w-u c = omega arith
-
-pub overflow_add-u : goal.overflow_add-u
-unfolding columns
-overflow_add-u c = omega arith
-
-pub loop-u-smaller : goal.loop-u-smaller
-unfolding columns
-loop-u-smaller c = omega arith
+pub loop-u-preserved : goal.loop-u-preserved
+loop-u-preserved c = next c.loop-u.invariant (omega arith) (c.islow_column.ensures ∙ ap (column_pass eight) c.load_column.ensures.value)
 
 pub returns : goal.returns
 unfolding columns

@@ -1,4 +1,3 @@
-use Prim.Native.Nat.{◌-◌}
 use mathlib.Core.Path.{◌≡◌}
 use lib.ListN.{take}
 use Rattle.lists.specs.Every.{every}
@@ -9,6 +8,3 @@ use Rattle.idct_8x8.proofs.row_pass.no_shortcut.Given as goal
 
 abbrev pub invariant-loop-y : goal.invariant-loop-y
 invariant-loop-y l = l.all ≡ every full (take l.y (tab 8 (row_of l.w)))
-
-abbrev pub decreases-loop-y : goal.decreases-loop-y
-decreases-loop-y l = 8 - l.y

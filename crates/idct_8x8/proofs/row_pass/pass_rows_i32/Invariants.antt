@@ -1,4 +1,3 @@
-use Prim.Native.Nat.{◌-◌}
 use Rattle.lists.proofs.Tab.{Filled}
 use Rattle.passes.specs.Passes.{eight, row_pass}
 use Rattle.block.specs.Block.{row_of}
@@ -6,6 +5,3 @@ use Rattle.idct_8x8.proofs.row_pass.pass_rows_i32.Given as goal
 
 abbrev pub invariant-loop-y : goal.invariant-loop-y
 invariant-loop-y l = Filled (λ k. row_pass eight (row_of l.w k)) 8 l.y l.r
-
-abbrev pub decreases-loop-y : goal.decreases-loop-y
-decreases-loop-y l = 8 - l.y

@@ -1,5 +1,8 @@
-use mathlib.Core.Path.{refl}
+use mathlib.Core.Path.{◌∙◌}
+use mathlib.Core.List.{[]}
+use native.Mathlib.Omega.{arith}
+use Rattle.lists.proofs.Tab.{tab-get_d}
 use Rattle.idct_8x8.proofs.row_pass.rows.Goals as goal
 
-pub pass_rows-requires : goal.pass_rows-requires
-pass_rows-requires c = (c.requires.0, refl)
+pub put_rows-requires : goal.put_rows-requires
+put_rows-requires c = (omega arith, (omega arith, (tab-get_d [] c.pass_rows.new.r 8 (omega arith) ∙ c.pass_rows.ensures c.if-pass_rows.true, c.requires)))

@@ -1,11 +1,10 @@
-use Prim.Native.Nat.{ℕ, ◌-◌, ◌≤◌}
+use Prim.Native.Nat.{ℕ, ◌≤◌}
 use mathlib.Core.Path.{◌≡◌, refl, sym, ap, ◌∙◌}
 use native.Mathlib.Omega.{arith}
 use mathlib.Core.List.{List}
-use lib.IntN.{ℤ}
+use lib.IntN.{ℤ, pos}
 use lib.ListN.{length, get_or}
 use Rattle.lists.specs.Tab.{tab}
-use Rattle.lists.proofs.Tab.{length-tab}
 use Rattle.clamping.specs.Counts.{counted}
 use Rattle.passes.specs.Passes.{four, row_pass}
 use Rattle.passes.proofs.Steps.{length-row, four-rows}
@@ -23,19 +22,18 @@ few : {w : List (List ℤ)} {y : ℕ} {t : List ℕ} → y ≤ 4 → Columns w y
 few l h x = omega (arith, columns-few _ h x, l)
 
 pub put_row-requires : goal.put_row-requires
-put_row-requires c =
-    omega (arith, long _ c.row_4.ensures, c.loop-y.invariant.0.front.long)
+put_row-requires c = omega (arith, long _ c.row_4.ensures, c.loop-y.invariant.0.front.long)
 
 pub add_tallies-requires : goal.add_tallies-requires
 add_tallies-requires c =
-    let l = c.loop-y in record { t_len = (ap length l.invariant.1.is ∙ length-tab 4 _, long _ c.row_4.ensures); by_index = λ x. omega (arith, columns-few _ l.invariant.1 x, l.invariant.1.within) }
+    let l = c.loop-y in λ x. omega (arith, columns-few _ l.invariant.1 x, l.invariant.1.within)
 
 pub loop-y-preserved : goal.loop-y-preserved
 unfolding four
 loop-y-preserved c =
     let l = c.loop-y in (
-      rows-turn l.invariant.0 (omega arith) c.load_row_4.ensures c.row_4.ensures (long _ c.row_4.ensures) (long _ c.row_4.ensures) c.put_row.ensures,
-      columns-more _ l.invariant.1 (omega arith) (c.row_4.ensures ∙ ap (row_pass four) c.load_row_4.ensures) c.add_tallies.ensures,
+      rows-turn l.invariant.0 (omega arith) (c.load_row.ensures (pos 0)) c.row_4.ensures (long _ c.row_4.ensures) (long _ c.row_4.ensures) c.put_row.ensures,
+      columns-more _ l.invariant.1 (omega arith) (c.row_4.ensures ∙ ap (row_pass four) (c.load_row.ensures (pos 0))) c.add_tallies.ensures,
     )
 
 pub returns : goal.returns
@@ -46,58 +44,18 @@ pub loop-y-init : goal.loop-y-init
 unfolding counted tab
 loop-y-init c = (rows_none c.requires, record { within = omega arith; is = refl })
 
-pub load_row_4-requires : goal.load_row_4-requires
-unfolding counted tab
-load_row_4-requires c = omega arith
-
-pub row_4-requires : goal.row_4-requires
-unfolding counted tab
-row_4-requires c = refl
-
-pub overflow_mul-y : goal.overflow_mul-y
-unfolding counted tab
-overflow_mul-y c = omega arith
-
 pub slice_bounds-put_row-end : goal.slice_bounds-put_row-end
 unfolding counted tab
 slice_bounds-put_row-end c = sym (long _ c.row_4.ensures)
-
-pub overflow_add-y : goal.overflow_add-y
-unfolding counted tab
-overflow_add-y c = omega arith
-
-pub loop-y-smaller : goal.loop-y-smaller
-unfolding counted tab
-loop-y-smaller c = omega arith
-
-pub bounds-t-0 : goal.bounds-t-0
-unfolding counted tab
-bounds-t-0 c = omega arith
-
-pub bounds-t-1 : goal.bounds-t-1
-unfolding counted tab
-bounds-t-1 c = omega arith
 
 pub overflow_add-result : goal.overflow_add-result
 unfolding counted tab
 overflow_add-result c = record { fits = omega (arith, (few (omega arith) c.loop-y.invariant.1 0), (few (omega arith) c.loop-y.invariant.1 1)) }
 
-pub bounds-t-2 : goal.bounds-t-2
-unfolding counted tab
-bounds-t-2 c = omega arith
-
 pub overflow_add-result-2 : goal.overflow_add-result-2
 unfolding counted tab
 overflow_add-result-2 c = record { fits = omega (arith, (few (omega arith) c.loop-y.invariant.1 0), (few (omega arith) c.loop-y.invariant.1 1), (few (omega arith) c.loop-y.invariant.1 2)) }
 
-pub bounds-t-3 : goal.bounds-t-3
-unfolding counted tab
-bounds-t-3 c = omega arith
-
 pub overflow_add-result-3 : goal.overflow_add-result-3
 unfolding counted tab
 overflow_add-result-3 c = record { fits = omega (arith, (few (omega arith) c.loop-y.invariant.1 0), (few (omega arith) c.loop-y.invariant.1 1), (few (omega arith) c.loop-y.invariant.1 2), (few (omega arith) c.loop-y.invariant.1 3)) }
-
-pub shape_of-output : goal.shape_of-output
-unfolding counted tab
-shape_of-output c = omega arith

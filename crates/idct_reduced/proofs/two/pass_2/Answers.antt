@@ -11,6 +11,6 @@ use Rattle.idct_reduced.proofs.two.pass_2.Goals as goal
 pub returns : goal.returns
 unfolding tab
 returns c =
-    let s = c.args.shift in let x0 = descaled-read w32 s (record { sfits = c.descale_i32-arg-1.given }) c.descale_i32.ensures in
-    let x1 = descaled-read w32 s (record { sfits = c.descale_i32-arg-2-1.given }) c.descale_i32-2.ensures in
+    let s = c.args.shift in let x0 = descaled-read w32 s (record { sfits = c.descale_by-arg-1.given }) c.descale_by.ensures in
+    let x1 = descaled-read w32 s (record { sfits = c.descale_by-arg-2-1.given }) c.descale_by-2.ensures in
     (λ i. x0 i ∷ x1 i ∷ []) ∙ pass-read w32 gains2 two-rows s _ _ c.islow_1d_2-v.ensures

@@ -27,20 +27,20 @@ module _ (c : goal.Then-is_sample) where
   abbrev q : List ℤ
   q = c.args.q
 
-  bits : (of_z w32 c.wrapping_add_i32-a.result ≤ 255) × ((of_z w32 c.wrapping_add_i32-b.result ≤ 255) × ((of_z w32 c.wrapping_add_i32-c.result ≤ 255) × (of_z w32 c.wrapping_add_i32-d.result ≤ 255)))
+  bits : (of_z w32 c.add-a.result ≤ 255) × ((of_z w32 c.add-b.result ≤ 255) × ((of_z w32 c.add-c.result ≤ 255) × (of_z w32 c.add-d.result ≤ 255)))
   bits = four-bits _ _ _ _ c.is_sample.ensures c.if-is_sample.true
 
-  as-0 : AsIs (get_or q 0 (pos 0)) (to_z w32 (of_z w32 c.wrapping_add_i32-a.result))
-  as-0 = one _ (record { sfits = c.wrapping_add_i32-arg-1.given }) c.wrapping_add_i32-a.ensures bits.0
+  as-0 : AsIs (get_or q 0 (pos 0)) (to_z w32 (of_z w32 c.add-a.result))
+  as-0 = one _ (record { sfits = c.add-arg-1.given }) c.add-a.ensures bits.0
 
-  as-1 : AsIs (get_or q 1 (pos 0)) (to_z w32 (of_z w32 c.wrapping_add_i32-b.result))
-  as-1 = one _ (record { sfits = c.wrapping_add_i32-arg-2-1.given }) c.wrapping_add_i32-b.ensures bits.1.0
+  as-1 : AsIs (get_or q 1 (pos 0)) (to_z w32 (of_z w32 c.add-b.result))
+  as-1 = one _ (record { sfits = c.add-arg-2-1.given }) c.add-b.ensures bits.1.0
 
-  as-2 : AsIs (get_or q 2 (pos 0)) (to_z w32 (of_z w32 c.wrapping_add_i32-c.result))
-  as-2 = one _ (record { sfits = c.wrapping_add_i32-arg-3-1.given }) c.wrapping_add_i32-c.ensures bits.1.1.0
+  as-2 : AsIs (get_or q 2 (pos 0)) (to_z w32 (of_z w32 c.add-c.result))
+  as-2 = one _ (record { sfits = c.add-arg-3-1.given }) c.add-c.ensures bits.1.1.0
 
-  as-3 : AsIs (get_or q 3 (pos 0)) (to_z w32 (of_z w32 c.wrapping_add_i32-d.result))
-  as-3 = one _ (record { sfits = c.wrapping_add_i32-arg-4-1.given }) c.wrapping_add_i32-d.ensures bits.1.1.1
+  as-3 : AsIs (get_or q 3 (pos 0)) (to_z w32 (of_z w32 c.add-d.result))
+  as-3 = one _ (record { sfits = c.add-arg-4-1.given }) c.add-d.ensures bits.1.1.1
 
 pub returns-then-is_sample : goal.returns-then-is_sample
 unfolding counted tab

@@ -7,8 +7,6 @@ use lib.IntN.{ℤ, pos}
 use mir.Syntax.{w32}
 use mir.Val.{SFits, to_z, of_z}
 use mir.ValLaws.{to_z-of_z}
-use Rattle.integers.specs.Fits16.{Fits16}
-use Rattle.lists.specs.Every.{Every}
 use Rattle.lists.specs.Tab.{tab}
 use Rattle.clamping.specs.Clamping.{sample_u8}
 use Rattle.clamping.specs.Counts.{counted, tally_one}
@@ -41,7 +39,7 @@ returns-then-columns_fit c =
 
 pub returns : goal.returns
 returns c =
-    let all = made _ (c.row_2-q.ensures ∙ ap (row_pass two) c.load_row_2.ensures) (c.row_2-r.ensures ∙ ap (row_pass two) c.load_row_2-2.ensures)
+    let all = made _ (c.row_2-q.ensures ∙ ap (row_pass two) (c.load_row.ensures (pos 0))) (c.row_2-r.ensures ∙ ap (row_pass two) (c.load_row-2.ensures (pos 0)))
     (record { sfits = c.put_2-arg-3-1.given }) (record { sfits = c.put_2-arg-4-1.given }) (record { sfits = c.put_2-arg-5-1.given }) (record { sfits = c.put_2-arg-6-1.given }) (c.put_2-2.ensures.value, c.put_2-2.ensures.output_after) in record { value = all.0; output_after = all.1 }
 
 pub full_row_2-q-requires : goal.full_row_2-q-requires

@@ -1,17 +1,13 @@
-use mathlib.Core.Path.{◌∙◌}
-use lib.IntN.{◌+ℤ◌, ◌*ℤ◌}
-use mir.Syntax.{w32}
-use mir.ValLaws.{to_z-of_z}
+use Rattle.std.proofs.Common.{w32, ◌∙◌, ◌+ℤ◌, ◌*ℤ◌}
+use Rattle.std.proofs.lemmas.Int.{to_z-of_z}
 use Rattle.integers.specs.Wrap.{wrap}
-use Rattle.integers.proofs.Wrap.{wrap-read, wrap-+}
+use Rattle.integers.proofs.Wrap.{wrap-+}
 use Rattle.islow.proofs.direct.mul2.Goals as goal
 
 pub returns : goal.returns
-returns c =
-    let x = to_z-of_z w32 c.args.x c.ranges.x in
-    let j = to_z-of_z w32 c.args.j c.ranges.j in
-    let y = to_z-of_z w32 c.args.y c.ranges.y in
-    let k = to_z-of_z w32 c.args.k c.ranges.k in
-    let first = wrap-read w32 _ (c.wrapping_mul_i32.ensures ∙ (λ i. wrap w32 (x i *ℤ j i))) in
-    let second = wrap-read w32 _ (c.wrapping_mul_i32-2.ensures ∙ (λ i. wrap w32 (y i *ℤ k i))) in
-    wrap-read w32 _ (c.wrapping_add_i32.ensures ∙ (λ i. wrap w32 (first i +ℤ second i)) ∙ wrap-+ w32 _ _)
+returns g c =
+    let w = g.T.Wrapping.width in
+    let j = to_z-of_z w32 _ c.ranges.j in
+    let k = to_z-of_z w32 _ c.ranges.k in
+    c.add.ensures ∙ (λ i. wrap w (c.times.ensures i +ℤ c.times-2.ensures i)) ∙ wrap-+ w _ _
+    ∙ (λ i. wrap w (g.T.Wrapping.value c.args.x *ℤ j i +ℤ g.T.Wrapping.value c.args.y *ℤ k i))

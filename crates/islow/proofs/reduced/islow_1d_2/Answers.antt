@@ -1,10 +1,12 @@
-use mir.Syntax.{w32}
-use Rattle.integers.proofs.Entries.{entries}
+use Rattle.std.proofs.Common.{rules}
+use Rattle.integers.proofs.Linear.{lin-at}
 use Rattle.gains.proofs.Butterfly.{two-point}
 use Rattle.islow.proofs.reduced.islow_1d_2.Goals as goal
 
 pub returns : goal.returns
-returns c =
-    two-point w32 _ (entries w32 c.args.p c.well_formed.0) c.wrapping_mul_i32-tmp10.ensures c.wrapping_mul_i32.ensures c.wrapping_mul_i32-2.ensures
-    c.wrapping_add_i32.ensures c.wrapping_mul_i32-3.ensures c.wrapping_add_i32-2.ensures c.wrapping_mul_i32-4.ensures c.wrapping_add_i32-tmp0.ensures
-    c.wrapping_add_i32-3.ensures c.wrapping_sub_i32.ensures
+returns g c =
+    let at = lin-at {w = g.T.Wrapping.width} g.T.Wrapping.value c.args.p in
+    two-point g.T.Wrapping.width _ (at 0 c.index-p-0.result (search rules)) (at 1 c.index-p-1.result (search rules))
+    (at 3 c.index-p-3.result (search rules)) (at 5 c.index-p-5.result (search rules))
+    (at 7 c.index-p-7.result (search rules)) c.times-tmp10.ensures c.times.ensures c.times-2.ensures c.add.ensures
+    c.times-3.ensures c.add-2.ensures c.times-4.ensures c.add-tmp0.ensures c.add-3.ensures c.sub.ensures

@@ -1,18 +1,8 @@
-use Rattle.refusals.proofs.Refusals.{after}
-use Rattle.plane.specs.Scale.{plane_inverse_tests, scale_by}
-use Rattle.plane.specs.Placing.{by-1}
-use Rattle.jpeg_block.proofs.Counted.{call-refused, call-made}
+use Rattle.plane.specs.Scale.{plane_inverse_tests}
+use Rattle.refusals.proofs.Numbers.{err-status, stopped}
 use Rattle.jpeg_block.proofs.planes.jpeg_block_islow_plane.Goals as goal
 
-pub returns-then-status-ne0 : goal.returns-then-status-ne0
-unfolding plane_inverse_tests scale_by
-returns-then-status-ne0 c =
-    let all = call-refused _ _ _ _ _ (after _ _ tt c.inverse_status-number.ensures c.counts_status-status.ensures) c.if-status-ne0.true in record { value = all.0; output_after = all.1.0; counts_after = all.1.1 }
-
-pub returns : goal.returns
-unfolding plane_inverse_tests scale_by
-returns c =
-    let all = call-made _ _ _ _ tt _ _ (after _ _ tt c.inverse_status-number.ensures c.counts_status-status.ensures) c.if-status-ne0.false (c.islow_plane-answer.ensures.value, c.islow_plane-answer.ensures.out_after) c.put_counts.ensures in record { value = all.0; output_after = all.1.0; counts_after = all.1.1 }
-
-pub inverse_status-number-requires : goal.inverse_status-number-requires
-inverse_status-number-requires c = by-1
+pub returns-in-Err-islow_plane-clause-value : goal.returns-in-Err-islow_plane-clause-value
+unfolding plane_inverse_tests
+returns-in-Err-islow_plane-clause-value c =
+    stopped _ _ tt _ c.number-in-Err-islow_plane.ensures (err-status _ _ _ _ c.in-Err-islow_plane.ensures.value)

@@ -1,12 +1,15 @@
-use Rattle.jpeg_block.proofs.Handed.{new-refused, new-bad-place, new-stored}
+use mathlib.Core.Path.{ap, ◌∙◌}
+use Rattle.refusals.proofs.Numbers.{stopped, went-on}
+use Rattle.bench_queue.specs.Told.{Updated}
+use Rattle.bench_queue.specs.Calls.{new_answer}
+use Rattle.jpeg_block.proofs.Handed.{of-ok, of-err}
 use Rattle.jpeg_block.proofs.queue.jpeg_block_bench_queue_new.Goals as goal
 
-pub returns : goal.returns
-returns c =
-    let all = new-stored _ _ c.new-made.ensures c.if-made-ne0.false c.if-state-ne10.false c.put_state.ensures in record { value = all.0; state_after = all.1 }
+pub returns-in-Ok-clause-value : goal.returns-in-Ok-clause-value
+unfolding new_answer
+returns-in-Ok-clause-value c =
+    c.status.ensures ∙ went-on _ _ tt (of-ok c.in-Ok.is (ap (λ (u : Updated). u.status) c.new-made.ensures)) c.put_new.ensures.value
 
-pub returns-then-made-ne0 : goal.returns-then-made-ne0
-returns-then-made-ne0 c = let all = new-refused _ _ c.new-made.ensures c.if-made-ne0.true in record { value = all.0; state_after = all.1 }
-
-pub returns-then-state-ne10 : goal.returns-then-state-ne10
-returns-then-state-ne10 c = let all = new-bad-place _ _ c.new-made.ensures c.if-made-ne0.false c.if-state-ne10.true in record { value = all.0; state_after = all.1 }
+pub returns-in-Err-clause-value : goal.returns-in-Err-clause-value
+unfolding new_answer
+returns-in-Err-clause-value c = stopped _ _ tt _ c.number.ensures (of-err c.in-Err.is (ap (λ (u : Updated). u.status) c.new-made.ensures))

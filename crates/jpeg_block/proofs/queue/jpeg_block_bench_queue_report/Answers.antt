@@ -1,18 +1,22 @@
-use Rattle.refusals.proofs.Refusals.{lacks, ◌then◌, refused}
-use Rattle.jpeg_block.proofs.Handed.{report-refused, report-bad-place, report-stored}
+use mathlib.Core.Path.{ap, ◌∙◌}
+use mathlib.Core.List.{[], ◌∷◌}
+use Rattle.refusals.specs.Refusals.{◌unless◌, ◌of◌, status}
+use Rattle.refusals.proofs.Numbers.{stopped, went-on}
+use Rattle.bench_queue.specs.Told.{Reported}
+use Rattle.bench_queue.specs.Calls.{report_tests, report_answer}
+use Rattle.bench_queue.specs.declared.BenchQueue.{BenchQueue}
+use Rattle.jpeg_block.specs.Queue.{handed_state}
+use Rattle.jpeg_block.proofs.Handed.{ten, of-ok, of-err}
 use Rattle.jpeg_block.proofs.queue.jpeg_block_bench_queue_report.Goals as goal
 
-pub returns-then-reported-ne0 : goal.returns-then-reported-ne0
-returns-then-reported-ne0 c =
-    let all = report-refused _ c.handed_state.ensures c.report-reported.ensures _ c.if-state-ne10.false c.if-reported-ne0.true in record { value = all.0; counts_after = all.1 }
+pub returns-in-Ok-clause-value : goal.returns-in-Ok-clause-value
+unfolding report_answer
+returns-in-Ok-clause-value c =
+    let called = ap (λ (u : Reported). u.status) c.report.ensures ∙ ap (λ (q : BenchQueue). status (report_tests q)) c.handed_state.ensures in
+    c.status.ensures ∙ went-on (report_tests (handed_state c.args.state.now)) (3 unless c.args.counts.now of 8 ∷ []) tt (of-ok c.in-Ok.is called) c.put_counts.ensures.value ∙ ten _ _ c.if-state-ne10.false
 
-pub returns-then-counts-ne8 : goal.returns-then-counts-ne8
-returns-then-counts-ne8 c =
-    let all = report-bad-place _ c.handed_state.ensures c.report-reported.ensures _ c.if-state-ne10.false c.if-reported-ne0.false c.if-counts-ne8.true in record { value = all.0; counts_after = all.1 }
-
-pub returns : goal.returns
-returns c =
-    let all = report-stored _ c.handed_state.ensures c.report-reported.ensures _ c.if-state-ne10.false c.if-reported-ne0.false c.if-counts-ne8.false c.put_numbers.ensures in record { value = all.0; counts_after = all.1 }
-
-pub returns-then-state-ne10 : goal.returns-then-state-ne10
-returns-then-state-ne10 c = let all = refused _ _ _ 0 (lacks c.if-state-ne10.true then tt) in record { value = all.0; counts_after = all.1 }
+pub returns-in-Err-clause-value : goal.returns-in-Err-clause-value
+unfolding report_answer
+returns-in-Err-clause-value c =
+    let called = ap (λ (u : Reported). u.status) c.report.ensures ∙ ap (λ (q : BenchQueue). status (report_tests q)) c.handed_state.ensures in
+    stopped (report_tests (handed_state c.args.state.now)) (3 unless c.args.counts.now of 8 ∷ []) tt _ c.number-in-Err.ensures (of-err c.in-Err.is called) ∙ ten _ _ c.if-state-ne10.false

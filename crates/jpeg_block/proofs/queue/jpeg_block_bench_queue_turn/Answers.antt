@@ -1,28 +1,51 @@
-use mathlib.Core.Path.{ap, ◌∙◌}
+use mathlib.Core.Path.{◌≡◌, refl, sym, ap, ◌∙◌}
 use mathlib.Core.List.{[], ◌∷◌}
-use Prim.Native.Nat.{ℕ}
-use native.Mathlib.Omega.{arith}
-use Rattle.refusals.proofs.Refusals.{has, lacks, ◌then◌, failed}
-use Rattle.jpeg_block.proofs.Handed.{in-range, out_of_range, turn-kept, turn-refused, turn-stored}
+use Rattle.refusals.specs.Refusals.{◌unless◌, ◌of◌, status}
+use Rattle.refusals.proofs.Refusals.{lacks, ◌then◌, failed, kept, wrote}
+use Rattle.refusals.proofs.Numbers.{stopped, went-on}
+use Rattle.bench_queue.specs.Told.{Reported, Turned, listed_of, word_told}
+use Rattle.bench_queue.specs.Calls.{report_tests, report_answer, turn_tests, turn_answer, turn_output}
+use Rattle.bench_queue.specs.declared.BenchQueue.{BenchQueue}
+use Rattle.jpeg_block.specs.Queue.{handed_state, word_number}
+use Rattle.jpeg_block.proofs.Handed.{ten, of-ok, of-err, nonzero, in-range, turn-tests, out-kept}
 use Rattle.jpeg_block.proofs.queue.jpeg_block_bench_queue_turn.Goals as goal
 
-pub returns-then-state-ne10 : goal.returns-then-state-ne10
-returns-then-state-ne10 c =
-    let all = turn-kept _ _ _ _ (λ z. omega (arith, z)) (failed 0 _ (lacks c.if-state-ne10.true then tt)) in record { value = all.0; state_after = all.1.0; out_after = all.1.1.0; answer_after = all.1.1.1 }
+pub returns-in-Err-clause-value : goal.returns-in-Err-clause-value
+unfolding report_answer
+returns-in-Err-clause-value c =
+    let called = ap (λ (u : Reported). u.status) c.report.ensures ∙ ap (λ (q : BenchQueue). status (report_tests q)) c.handed_state-q.ensures in
+    stopped (report_tests (handed_state c.args.state.now)) (3 unless c.args.answer.now of 2 ∷ 3 unless c.args.out.now of 4096 ∷ []) tt _ c.number-in-Err.ensures (of-err c.in-Err.is called) ∙ ten _ _ c.if-state-ne10.false
 
-pub returns-then-report-ne0 : goal.returns-then-report-ne0
-returns-then-report-ne0 c =
-    let long = c.if-state-ne10.false in let all = turn-kept _ _ _ _ (λ z. omega (arith, z)) (failed 1 _ (has long then out_of_range _ c.handed_state-q.ensures c.report.ensures c.if-report-ne0.true then tt)) in record { value = all.0; state_after = all.1.0; out_after = all.1.1.0; answer_after = all.1.1.1 }
+pub returns-then-answer-ne2-clause-value : goal.returns-then-answer-ne2-clause-value
+unfolding report_answer
+returns-then-answer-ne2-clause-value c =
+    let called = ap (λ (u : Reported). u.status) c.report.ensures ∙ ap (λ (q : BenchQueue). status (report_tests q)) c.handed_state-q.ensures in
+    went-on (report_tests (handed_state c.args.state.now)) (3 unless c.args.answer.now of 2 ∷ 3 unless c.args.out.now of 4096 ∷ []) tt (of-ok c.in-Ok.is called)
+    (c.number-then-answer-ne2.ensures ∙ failed 0 _ (lacks c.if-answer-ne2.true then tt)) ∙ ten _ _ c.if-state-ne10.false
 
-pub returns-then-answer-ne2 : goal.returns-then-answer-ne2
-returns-then-answer-ne2 c =
-    let long = c.if-state-ne10.false in let all = turn-kept _ _ _ _ (λ z. omega (arith, z)) (failed 2 _ (has long then in-range _ c.handed_state-q.ensures c.report.ensures c.if-report-ne0.false then lacks c.if-answer-ne2.true then tt)) in record { value = all.0; state_after = all.1.0; out_after = all.1.1.0; answer_after = all.1.1.1 }
+pub returns-in-Ok-outcome-clause-value : goal.returns-in-Ok-outcome-clause-value
+unfolding report_answer turn_answer
+returns-in-Ok-outcome-clause-value c =
+    let called = ap (λ (u : Reported). u.status) c.report.ensures ∙ ap (λ (q : BenchQueue). status (report_tests q)) c.handed_state-q.ensures in
+    let turned = ap (λ (t : Turned). t.status) c.turn-turned.ensures.value ∙ ap (λ (q : BenchQueue). status (turn_tests q c.args.out.now)) c.handed_state-q.ensures in
+    of-ok c.in-Ok-outcome.is turned ∙ turn-tests _ _ _ c.if-state-ne10.false (in-range _ (of-ok c.in-Ok.is called)) c.if-answer-ne2.false
 
-pub returns-then-turned-ne0 : goal.returns-then-turned-ne0
-returns-then-turned-ne0 c =
-    let long = c.if-state-ne10.false in let all = turn-refused _ _ _ _ long c.handed_state-q.ensures (in-range _ c.handed_state-q.ensures c.report.ensures c.if-report-ne0.false) c.if-answer-ne2.false c.turn-turned.ensures.value c.if-turned-ne0.true c.turn-turned.ensures.out_after in record { value = all.0; state_after = all.1.0; out_after = all.1.1.0; answer_after = all.1.1.1 }
+pub returns-in-Ok-outcome-clause-answer_after : goal.returns-in-Ok-outcome-clause-answer_after
+returns-in-Ok-outcome-clause-answer_after c =
+    let turned = c.turn-turned.ensures.value ∙ ap (λ (q : BenchQueue). turn_answer q c.args.l c.args.out.now) c.handed_state-q.ensures in
+    let listed = ap listed_of (sym c.in-Ok-outcome.is) ∙ ap (λ (t : Turned). t.listed) turned in
+    let word = c.word_number.ensures ∙ ap word_number (ap word_told (sym c.in-Ok-outcome.is) ∙ ap (λ (t : Turned). t.word) turned) in
+    wrote _ _ refl (c.copy_from_slice.ensures.after ∙ (λ i. listed i ∷ word i ∷ []))
 
-pub returns : goal.returns
-returns c =
-    let long = c.if-state-ne10.false in let all = turn-stored _ _ _ _ long c.handed_state-q.ensures (in-range _ c.handed_state-q.ensures c.report.ensures c.if-report-ne0.false) c.if-answer-ne2.false c.turn-turned.ensures.value
-    c.if-turned-ne0.false c.put_state.ensures c.turn-turned.ensures.out_after (c.put_numbers.ensures ∙ ap (λ (w : ℕ). c.turn-turned.result.listed ∷ w ∷ []) c.word_number.ensures) in record { value = all.0; state_after = all.1.0; out_after = all.1.1.0; answer_after = all.1.1.1 }
+pub returns-in-Err-outcome-clause-value : goal.returns-in-Err-outcome-clause-value
+unfolding report_answer turn_answer
+returns-in-Err-outcome-clause-value c =
+    let called = ap (λ (u : Reported). u.status) c.report.ensures ∙ ap (λ (q : BenchQueue). status (report_tests q)) c.handed_state-q.ensures in
+    let turned = ap (λ (t : Turned). t.status) c.turn-turned.ensures.value ∙ ap (λ (q : BenchQueue). status (turn_tests q c.args.out.now)) c.handed_state-q.ensures in
+    c.number-in-Err-outcome.ensures ∙ of-err c.in-Err-outcome.is turned ∙ turn-tests _ _ _ c.if-state-ne10.false (in-range _ (of-ok c.in-Ok.is called)) c.if-answer-ne2.false
+
+pub returns-in-Err-outcome-clause-out_after : goal.returns-in-Err-outcome-clause-out_after
+unfolding turn_answer
+returns-in-Err-outcome-clause-out_after c =
+    let turned = of-err c.in-Err-outcome.is (ap (λ (t : Turned). t.status) c.turn-turned.ensures.value) in
+    c.turn-turned.ensures.out_after ∙ out-kept _ _ _ (nonzero c.in-Err-outcome.refusal) turned ∙ kept _ _ (λ z. nonzero c.in-Err-outcome.refusal (sym c.number-in-Err-outcome.ensures ∙ z))

@@ -4,4 +4,4 @@ use Rattle.jpeg_block.proofs.queue.put_state.Goals as goal
 
 pub returns : goal.returns
 unfolding state_numbers tab
-returns c = c.put_numbers.ensures
+returns c = c.copy_from_slice.ensures.after

@@ -1,33 +1,28 @@
-use mathlib.Core.Path.{◌≡◌, ◌∙◌}
-use mathlib.Core.Bool.{false}
+use mathlib.Core.Path.{◌≡◌}
 use native.Mathlib.Omega.{arith}
-use borrow.Author.Tests.{ltb-false}
 use lib.IntN.{ℤ, pos, negsuc}
-use lib.Signed.{lt_z}
-use mir.Facts.{to_z-of_z}
-use Rattle.integers.specs.Fits16.{Fits16}
-use Rattle.clamping.proofs.Clamp.{centered-low, centered-high, centered-kept}
+use mir.Syntax.{w16, w32}
+use mir.Val.{SFits, to_z, of_z}
+use mir.ValLaws.{to_z-of_z}
+use Rattle.std.specs.Int.{int_max, int_min}
+use Rattle.std.proofs.lemmas.Int.{ints, clamps}
 use Rattle.plane.specs.Scale.{clamped16}
+use Rattle.clamping.specs.Clamping.{centered}
+use Rattle.plane.proofs.Scales.{clamped-fits}
 use Rattle.plane.proofs.decode.clamped.Goals as goal
 
-between : (z : ℤ) → lt_z z (negsuc 32767) ≡ false → lt_z (pos 32767) z ≡ false → Fits16 z
-between (pos n) g h = record { sfits = omega (arith, ltb-false 32767 n h) }
-between (negsuc n) g h = record { sfits = omega (arith, ltb-false 32767 n g) }
+clamped-is : (z : ℤ) → int_max (negsuc 32767) (int_min z (pos 32767)) ≡ clamped16 z
+unfolding clamped16 centered
+clamped-is (pos n) = omega (arith, ints, clamps)
+clamped-is (negsuc n) = omega (arith, ints, clamps)
+
+clamped-wide : (z : ℤ) → SFits w32 (clamped16 z)
+unfolding clamped16 centered
+clamped-wide (pos n) = record { sfits = omega arith }
+clamped-wide (negsuc n) = record { sfits = omega arith }
+
+clamped-read : {z r : ℤ} → SFits w32 z → r ≡ int_max (negsuc 32767) (int_min (to_z w32 (of_z w32 z)) (pos 32767)) → to_z w16 (of_z w16 (to_z w32 (of_z w32 r))) ≡ clamped16 z
+clamped-read {z} f e = rw (e, to_z-of_z w32 z f, clamped-is z, to_z-of_z w32 _ (clamped-wide z)) (to_z-of_z w16 _ (clamped-fits z))
 
 pub returns : goal.returns
-unfolding clamped16
-returns c =
-    let e = to_z-of_z c.ranges.product in
-    to_z-of_z (between _ c.if-product-ltminus32768.false c.if-product-gt32767.false) ∙ centered-kept 32768 e c.if-product-ltminus32768.false c.if-product-gt32767.false
-
-pub returns-then-product-ltminus32768 : goal.returns-then-product-ltminus32768
-unfolding clamped16
-returns-then-product-ltminus32768 c = centered-low 32768 (to_z-of_z c.ranges.product) c.if-product-ltminus32768.true
-
-pub returns-then-product-gt32767 : goal.returns-then-product-gt32767
-unfolding clamped16
-returns-then-product-gt32767 c = centered-high 32768 (to_z-of_z c.ranges.product) c.if-product-gt32767.true
-
-pub overflow_cast-result : goal.overflow_cast-result
-unfolding clamped16
-overflow_cast-result c = between _ c.if-product-ltminus32768.false c.if-product-gt32767.false
+returns c = clamped-read c.ranges.product c.clamp.ensures.value

@@ -1,10 +1,6 @@
-use Prim.Native.Nat.{◌≤◌, ◌-◌}
 use Rattle.lists.proofs.Tab.{Filled}
 use Rattle.stored_blocks.specs.Dequantize.{product}
 use Rattle.plane.proofs.decode.products_i32.Given as goal
 
 abbrev pub invariant-loop-n : goal.invariant-loop-n
-invariant-loop-n l = (l.n ≤ 64) × Filled (product l.coefficients l.quant) 64 l.n l.products
-
-abbrev pub decreases-loop-n : goal.decreases-loop-n
-decreases-loop-n l = 64 - l.n
+invariant-loop-n l = Filled (product l.coefficients l.quant) 64 l.n l.products

@@ -1,4 +1,3 @@
-use Prim.Native.Nat.{◌≤◌, ◌-◌}
 use mathlib.Core.Path.{◌≡◌}
 use lib.Dec.{eqb}
 use lib.ListN.{get_or}
@@ -7,7 +6,4 @@ use Rattle.quantize.specs.Quantize.{divisor_of}
 use Rattle.plane.proofs.join.same_divisors.Given as goal
 
 abbrev pub invariant-loop-n : goal.invariant-loop-n
-invariant-loop-n l = (l.n ≤ 64) × (l.same ≡ below l.n (λ k. eqb (divisor_of (get_or l.quant k 0)) (divisor_of (get_or l.other k 0))))
-
-abbrev pub decreases-loop-n : goal.decreases-loop-n
-decreases-loop-n l = 64 - l.n
+invariant-loop-n l = l.same ≡ below l.n (λ k. eqb (divisor_of (get_or l.quant k 0)) (divisor_of (get_or l.other k 0)))

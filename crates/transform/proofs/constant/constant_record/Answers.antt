@@ -14,6 +14,6 @@ use Rattle.transform.proofs.constant.constant_record.Goals as goal
 pub returns : goal.returns
 unfolding tab canonical_at
 returns c =
-    let called = c.constant_dc-dc in let stored = to_z-of_z w16 called.result (small-fits w16 called.result called.ensures.result_bound) in
-    let sum = constant-sum c.args.block.now c.requires.block_value in
-    only-dc _ _ (stored ∙ called.ensures.value ∙ ap (λ (z : ℤ). coefficient z (get_or c.args.quant.now 0 0)) (sym sum)) refl c.table_of-divisors.ensures
+    let called = c.constant_dc in let stored = to_z-of_z w16 called.result (small-fits w16 called.result called.ensures.result_bound) in
+    let sum = constant-sum c.args.block.now c.requires in
+    only-dc _ _ (stored ∙ called.ensures.value ∙ ap (λ (z : ℤ). coefficient z (get_or c.args.quant.now 0 0)) (sym sum)) refl refl

@@ -1,20 +1,6 @@
-use mathlib.Core.Path.{refl}
 use native.Mathlib.Omega.{arith}
-use lib.ListN.{get_or}
-use lib.Ieee.{nan}
-use Rattle.lists.specs.Below.{below}
-use Rattle.lists.proofs.Below.{below_next, below_all}
-use Rattle.transform.specs.Settled.{in_range}
+use Rattle.lists.proofs.Below.{below_all}
 use Rattle.transform.proofs.guarded.all_in_range.Goals as goal
 
-pub loop-u-preserved : goal.loop-u-preserved
-loop-u-preserved c =
-    (omega arith, below_next (λ k. in_range (get_or c.args.scaled.now k nan)) c.loop-u.u refl c.loop-u.invariant.1)
-
 pub returns : goal.returns
-returns c =
-    let l = c.loop-u in below_all (λ k. in_range (get_or c.args.scaled.now k nan)) l.u 8 l.invariant.1 (omega arith)
-
-pub loop-u-init : goal.loop-u-init
-unfolding below
-loop-u-init c = (omega arith, refl)
+returns c = below_all _ c.loop-q.q-index 8 c.loop-q.invariant (omega arith)

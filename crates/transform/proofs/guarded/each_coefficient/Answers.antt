@@ -7,10 +7,10 @@ use Rattle.transform.proofs.guarded.each_coefficient.Goals as goal
 
 pub loop-u-preserved : goal.loop-u-preserved
 loop-u-preserved c =
-    let called = c.coefficient_of in let l = c.loop-u in (omega arith, next l.invariant.1 (omega arith) (to_z-of_z w16 called.result called.ensures.sfits ∙ called.ensures.value))
+    let called = c.coefficient_of in let l = c.loop-u in next l.invariant (omega arith) (to_z-of_z w16 called.result called.ensures.sfits ∙ called.ensures.value)
 
 pub loop-u-init : goal.loop-u-init
-loop-u-init c = (omega arith, none _ 8 _ refl)
+loop-u-init c = none _ 8 _ refl
 
 pub returns : goal.returns
-returns c = filled c.loop-u.invariant.1 (omega arith)
+returns c = filled c.loop-u.invariant (omega arith)

@@ -1,4 +1,4 @@
-use Prim.Native.Nat.{◌≤◌, ◌-◌, ◌+◌, ◌*◌}
+use Prim.Native.Nat.{◌+◌, ◌*◌}
 use lib.ListN.{get_or}
 use lib.Ieee.{nan}
 use Rattle.lists.proofs.Tab.{Filled}
@@ -6,7 +6,4 @@ use Rattle.transform.specs.Settled.{by_value}
 use Rattle.transform.proofs.guarded.each_coefficient.Given as goal
 
 abbrev pub invariant-loop-u : goal.invariant-loop-u
-invariant-loop-u l = (l.u ≤ 8) × Filled (λ k. by_value l.block l.quant (8 * l.v + k) (get_or l.scaled k nan)) 8 l.u l.row
-
-abbrev pub decreases-loop-u : goal.decreases-loop-u
-decreases-loop-u l = 8 - l.u
+invariant-loop-u l = Filled (λ k. by_value l.block l.quant (8 * l.v + k) (get_or l.scaled k nan)) 8 l.u l.row

@@ -27,10 +27,10 @@ overflow_cast-points c =
     record { fits = omega (arith, whole-part-most (get_or s u nan) (c.requires.by_index u (omega arith)) (near s u (omega arith) c.requires.nan_value)) }
 
 pub loop-u-init : goal.loop-u-init
-loop-u-init c = (omega arith, none _ 8 _ refl)
+loop-u-init c = none _ 8 _ refl
 
 pub loop-u-preserved : goal.loop-u-preserved
-loop-u-preserved c = (omega arith, next c.loop-u.invariant.1 (omega arith) refl)
+loop-u-preserved c = next c.loop-u.invariant (omega arith) refl
 
 pub returns : goal.returns
-returns c = filled c.loop-u.invariant.1 (omega arith)
+returns c = filled c.loop-u.invariant (omega arith)

@@ -1,4 +1,3 @@
-use Prim.Native.Nat.{◌≤◌, ◌-◌}
 use lib.ListN.{get_or}
 use lib.Ieee.{nan}
 use Rattle.lists.proofs.Tab.{Filled}
@@ -6,7 +5,4 @@ use Rattle.transform.specs.Settled.{point}
 use Rattle.transform.proofs.guarded.points_of.Given as goal
 
 abbrev pub invariant-loop-u : goal.invariant-loop-u
-invariant-loop-u l = (l.u ≤ 8) × Filled (λ k. point (get_or l.scaled k nan)) 8 l.u l.points
-
-abbrev pub decreases-loop-u : goal.decreases-loop-u
-decreases-loop-u l = 8 - l.u
+invariant-loop-u l = Filled (λ k. point (get_or l.scaled k nan)) 8 l.u l.points

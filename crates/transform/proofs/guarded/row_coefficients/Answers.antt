@@ -11,8 +11,5 @@ returns-then-all_settled c =
     let a = c.args in settled-row a.block.now a.quant.now a.v a.scaled.now c.requires.by_index (sym c.all_in_range.ensures ∙ c.if-all_in_range.true)
     c.points_of-points.ensures (sym c.all_settled.ensures ∙ c.if-all_settled.true) c.whole_parts.ensures
 
-pub each_coefficient-requires : goal.each_coefficient-requires
-each_coefficient-requires c = record { block_len = c.requires.block_len; v_bound = c.requires.v_bound }
-
 pub returns : goal.returns
 returns c = c.each_coefficient.ensures

@@ -1,16 +1,6 @@
-use mathlib.Core.Path.{refl, ◌∙◌}
-use native.Mathlib.Omega.{arith}
-use mir.Syntax.{w16}
-use mir.ValLaws.{to_z-of_z}
-use Rattle.lists.proofs.Tab.{none, next, filled}
+use borrow.Author.Rules.{rules}
+use Rattle.lists.proofs.Made.{made}
 use Rattle.transform.proofs.guarded.whole_parts.Goals as goal
 
-pub loop-u-preserved : goal.loop-u-preserved
-loop-u-preserved c =
-    let called = c.whole_part in let l = c.loop-u in (omega arith, next l.invariant.1 (omega arith) (to_z-of_z w16 called.result called.ensures.sfits ∙ called.ensures.value))
-
-pub loop-u-init : goal.loop-u-init
-loop-u-init c = (omega arith, none _ 8 _ refl)
-
 pub returns : goal.returns
-returns c = filled c.loop-u.invariant.1 (omega arith)
+returns c = made _ _ _ _ (λ i b y q k. (search rules, search rules)) c.from_fn.ensures.items

@@ -20,7 +20,7 @@ use Rattle.transform.proofs.record.from_natural_order.Goals as goal
 
 pub loop-z-init : goal.loop-z-init
 unfolding tab total
-loop-z-init c = (omega arith, omega arith, record { long = refl; front = refl }, refl)
+loop-z-init c = (record { long = refl; front = refl }, refl)
 
 -- the index at place z
 index : {l : List ℕ} (z : ℕ) → l ≡ zigzag_order → 1 ≤ z → z < 64 → get_or l z 0 < 64
@@ -31,23 +31,20 @@ loop-z-preserved c =
     let l = c.loop-z in let cs = c.args.coefficients.now in let n = get_or c.zigzag-order.result l.z 0 in
     let back = to_z-of_z w16 (natural cs n) (record { sfits = omega arith }) in
     let stored = back ∙ ap (λ (t : List ℕ). natural cs (get_or t l.z 0)) c.zigzag-order.ensures in
-    let place = stored ∙ sym (ac-place (natural cs) l.z l.invariant.0 (omega arith)) in
-    let next = update-next (ac_places (natural cs)) l.z l.nonzero_ac l.invariant.0 (omega arith) l.invariant.3 in
-    (omega arith, omega arith, more _ 64 _ _ _ _ l.invariant.2 (omega arith) refl (stored ∙ sym (ac-at (natural cs) l.z l.invariant.0)), c.update_nonzero_ac-nonzero_ac.ensures ∙ ap (λ (x : ℤ). with_bit l.nonzero_ac (64 - l.z) (nonzero x)) place ∙ next)
+    let place = stored ∙ sym (ac-place (natural cs) l.z (omega arith) (omega arith)) in
+    let next = update-next (ac_places (natural cs)) l.z l.nonzero_ac (omega arith) (omega arith) l.invariant.1 in
+    (more _ 64 _ _ _ _ l.invariant.0 (omega arith) refl (stored ∙ sym (ac-at (natural cs) l.z (omega arith))), c.update_nonzero_ac-nonzero_ac.ensures ∙ ap (λ (x : ℤ). with_bit l.nonzero_ac (64 - l.z) (nonzero x)) place ∙ next)
 
 pub returns : goal.returns
 unfolding bitmap_of ac_places
 returns c =
     let l = c.loop-z in let cs = c.args.coefficients.now in let dc = to_z-of_z w16 (natural cs 0) (record { sfits = omega arith }) in
-    let ac = all _ 64 _ _ l.invariant.2 (omega arith) (omega arith) in
+    let ac = all _ 64 _ _ l.invariant.0 (omega arith) (omega arith) in
     let e : l.z ≡ 64 = omega arith in
-    whole _ (natural cs) dc ac (l.invariant.3 ∙ ap (up_to (bit_at (ac_places (natural cs)))) e ∙ ap bitmap_of (sym ac)) c.table_of.ensures
+    whole _ (natural cs) dc ac (l.invariant.1 ∙ ap (up_to (bit_at (ac_places (natural cs)))) e ∙ ap bitmap_of (sym ac)) refl
 
-pub overflow_cast-n : goal.overflow_cast-n
-overflow_cast-n c = omega (arith, index c.loop-z.z c.zigzag-order.ensures c.loop-z.invariant.0 c.loop-z-test.true)
+pub overflow_cast-coefficient : goal.overflow_cast-coefficient
+overflow_cast-coefficient c = omega (arith, index c.loop-z.z c.zigzag-order.ensures (omega arith) (omega arith))
 
-pub offset_bounds-coefficients-n : goal.offset_bounds-coefficients-n
-offset_bounds-coefficients-n c = omega (arith, index c.loop-z.z c.zigzag-order.ensures c.loop-z.invariant.0 c.loop-z-test.true)
-
-pub bounds-coefficients-n : goal.bounds-coefficients-n
-bounds-coefficients-n c = omega (arith, index c.loop-z.z c.zigzag-order.ensures c.loop-z.invariant.0 c.loop-z-test.true)
+pub bounds-coefficients-order : goal.bounds-coefficients-order
+bounds-coefficients-order c = index c.loop-z.z c.zigzag-order.ensures (omega arith) (omega arith)

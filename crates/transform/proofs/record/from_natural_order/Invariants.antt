@@ -1,4 +1,4 @@
-use Prim.Native.Nat.{ℕ, ◌≤◌, ◌-◌}
+use Prim.Native.Nat.{ℕ}
 use mathlib.Core.Path.{◌≡◌}
 use mathlib.Core.List.{List}
 use lib.ListN.{get_or}
@@ -14,7 +14,4 @@ abbrev pub natural : List ℤ → ℕ → ℤ
 natural l n = get_or l n (pos 0)
 
 abbrev pub invariant-loop-z : goal.invariant-loop-z
-invariant-loop-z l = (1 ≤ l.z) × (l.z ≤ 64) × Filled (ac_at (natural l.coefficients)) 64 l.z l.ac_coefficients × (l.nonzero_ac ≡ up_to (bit_at (ac_places (natural l.coefficients))) l.z)
-
-abbrev pub decreases-loop-z : goal.decreases-loop-z
-decreases-loop-z l = 64 - l.z
+invariant-loop-z l = Filled (ac_at (natural l.coefficients)) 64 l.z l.ac_coefficients × (l.nonzero_ac ≡ up_to (bit_at (ac_places (natural l.coefficients))) l.z)

@@ -1,9 +1,12 @@
-use borrow.Author.Tests.{eq-eqb, ne_eqb}
+use mathlib.Core.Path.{◌≡◌, refl, ◌∙◌}
+use mathlib.Core.Bool.{Bool, true, false, cond, not}
+use mir.Val.{bool_byte}
 use Rattle.guarded_quantizer.proofs.Bitmap.{bits-nonzero}
 use Rattle.transform.proofs.record.nonzero_bit.Goals as goal
 
-pub returns-then-coefficient-eq0 : goal.returns-then-coefficient-eq0
-returns-then-coefficient-eq0 c = bits-nonzero _ c.ranges.coefficient.sfits (eq-eqb _ 0 c.if-coefficient-eq0.true)
+flipped : (t : Bool) → bool_byte (not t) ≡ cond t 0 1
+flipped true = refl
+flipped false = refl
 
 pub returns : goal.returns
-returns c = bits-nonzero _ c.ranges.coefficient.sfits (ne_eqb _ 0 c.if-coefficient-eq0.false)
+returns c = c.from.ensures ∙ flipped _ ∙ bits-nonzero c.args.coefficient c.ranges.coefficient.sfits refl

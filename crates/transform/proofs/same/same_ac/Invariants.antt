@@ -1,4 +1,3 @@
-use Prim.Native.Nat.{◌≤◌, ◌-◌}
 use mathlib.Core.Path.{◌≡◌}
 use mathlib.Core.Bool.{◌||◌}
 use lib.Dec.{eqb}
@@ -9,7 +8,4 @@ use Rattle.lists.specs.Below.{below}
 use Rattle.transform.proofs.same.same_ac.Given as goal
 
 abbrev pub invariant-loop-z : goal.invariant-loop-z
-invariant-loop-z l = (1 ≤ l.z) × (l.z ≤ 64) × (l.same ≡ below l.z (λ k. eqb k 0 || eq_z (get_or l.a k (pos 0)) (get_or l.b k (pos 0))))
-
-abbrev pub decreases-loop-z : goal.decreases-loop-z
-decreases-loop-z l = 64 - l.z
+invariant-loop-z l = l.same ≡ below l.z (λ k. eqb k 0 || eq_z (get_or l.a k (pos 0)) (get_or l.b k (pos 0)))

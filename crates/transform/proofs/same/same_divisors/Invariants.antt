@@ -1,4 +1,3 @@
-use Prim.Native.Nat.{◌≤◌, ◌-◌}
 use mathlib.Core.Path.{◌≡◌}
 use lib.Dec.{eqb}
 use lib.ListN.{get_or}
@@ -6,7 +5,4 @@ use Rattle.lists.specs.Below.{below}
 use Rattle.transform.proofs.same.same_divisors.Given as goal
 
 abbrev pub invariant-loop-n : goal.invariant-loop-n
-invariant-loop-n l = (l.n ≤ 64) × (l.same ≡ below l.n (λ k. eqb (get_or l.a k 0) (get_or l.b k 0)))
-
-abbrev pub decreases-loop-n : goal.decreases-loop-n
-decreases-loop-n l = 64 - l.n
+invariant-loop-n l = l.same ≡ below l.n (λ k. eqb (get_or l.a k 0) (get_or l.b k 0))

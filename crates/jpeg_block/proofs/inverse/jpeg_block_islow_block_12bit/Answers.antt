@@ -1,4 +1,0 @@
-use Rattle.jpeg_block.proofs.inverse.jpeg_block_islow_block_12bit.Goals as goal
-
-pub returns : goal.returns
-returns c = record { value = c.islow_block_12bit.ensures.value; output_after = c.islow_block_12bit.ensures.output_after }

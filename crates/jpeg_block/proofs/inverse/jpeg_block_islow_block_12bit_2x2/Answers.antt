@@ -1,4 +1,0 @@
-use Rattle.jpeg_block.proofs.inverse.jpeg_block_islow_block_12bit_2x2.Goals as goal
-
-pub returns : goal.returns
-returns c = record { value = c.islow_block_12bit_2x2.ensures.value; output_after = c.islow_block_12bit_2x2.ensures.output_after }
