@@ -31,3 +31,11 @@ pub fn columns_fit<const N: usize>(w: &[[i32; N]; 8]) -> bool
     }
     all
 }
+
+// A number that fits, as it is. The compiler sees that it fits, and makes one instruction of two products of such numbers.
+pub fn as_i16(x: i32) -> i32
+    requires { Fits16 x }
+    ensures { result ≡ x }
+{
+    i32::from(x as i16)
+}

@@ -25,8 +25,9 @@ use crate::sampled::Sampled;
 use block::Clamped;
 
 // Column u of a block's first `rows` rows; the rows below them are not read, and count as zero.
-pub fn load_column<T: Number>(input: &[T; 64], rows: usize, u: usize) -> [i32; 8]
-    requires { (rows ≤ 8) × (u < 8) }
+pub fn load_column<T: Number>(input: &[T], rows: usize, u: usize) -> [i32; 8]
+    requires input_len { length input.now ≡ 64 }
+    requires rows_bound { (rows ≤ 8) × (u < 8) }
     ensures value { result ≡ column_of (first_rows rows (T.values input.now)) u }
     ensures every { Every T.Fits result }
 {
@@ -38,8 +39,9 @@ pub fn load_column<T: Number>(input: &[T; 64], rows: usize, u: usize) -> [i32; 8
 }
 
 // Entry v of column u.
-fn coefficient(input: &[i16; 64], v: usize, u: usize) -> i32
-    requires { (v < 8) × (u < 8) }
+pub fn coefficient(input: &[i16], v: usize, u: usize) -> i32
+    requires input_len { length input.now ≡ 64 }
+    requires v_bound { (v < 8) × (u < 8) }
     ensures value { result ≡ get_or input.now (8 * v + u) (pos 0) }
     ensures fits16 { Fits16 result }
 {
@@ -47,8 +49,9 @@ fn coefficient(input: &[i16; 64], v: usize, u: usize) -> i32
 }
 
 // Column u for the 4-point transform, which ignores entry 4: it is not read.
-pub fn load_column_4(input: &[i16; 64], u: usize) -> [i32; 8]
-    requires { u < 8 }
+pub fn load_column_4(input: &[i16], u: usize) -> [i32; 8]
+    requires input_len { length input.now ≡ 64 }
+    requires u_bound { u < 8 }
     ensures value { result ≡ without (pos 0) skipped4 (column_of input.now u) }
     ensures every { Every Fits16 result }
 {
@@ -65,8 +68,9 @@ pub fn load_column_4(input: &[i16; 64], u: usize) -> [i32; 8]
 }
 
 // Column u for the 2-point transform: only entries 0, 1, 3, 5, 7 are read.
-pub fn load_column_2(input: &[i16; 64], u: usize) -> [i32; 8]
-    requires { u < 8 }
+pub fn load_column_2(input: &[i16], u: usize) -> [i32; 8]
+    requires input_len { length input.now ≡ 64 }
+    requires u_bound { u < 8 }
     ensures value { result ≡ without (pos 0) skipped2 (column_of input.now u) }
     ensures every { Every Fits16 result }
 {

@@ -37,7 +37,7 @@ pub fn islow_block_12bit(input: &[i16], output: &mut [u16]) -> Result<(), Refusa
     ensures value { status_of result ≡ status (inverse_tests 64 input.now output.old) }
     ensures output_after { output.new ≡ written (status_of result) (block12bit eight input.now) output.old }
 {
-    let input = input.as_array().ok_or(Refusal::Block)?;
+    let input = input.as_array::<64>().ok_or(Refusal::Block)?;
     Refusal::Output.unless(output.len() == 64)?;
     rows_8(&islow_columns::<8>(input, PASS1_SHIFT_12), output);
     Ok(())

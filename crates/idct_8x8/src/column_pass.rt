@@ -22,7 +22,8 @@ use passes::zero_shortcut::{ac_is_zero, islow_column};
 use passes::{descale_8, islow_pass1};
 
 // The columns of 16-bit numbers, each output scaled down by `shift` bits.
-pub fn islow_columns<const ROWS: usize>(input: &[i16; 64], shift: u32) -> [[i32; 8]; 8]
+pub fn islow_columns<const ROWS: usize>(input: &[i16], shift: u32) -> [[i32; 8]; 8]
+    requires input_len { length input.now ≡ 64 }
     requires rows { ROWS ≤ 8 }
     requires le_shift { (1 ≤ shift) × (shift ≤ 31) }
     ensures value { result ≡ columns (pass w32 gains shift) (first_rows ROWS input.now) }

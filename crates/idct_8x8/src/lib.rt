@@ -6,9 +6,8 @@
 // never wraps (`column-eight`, `columns-narrow` of block/proofs), so it goes by direct products and has no zero shortcut. A block of which
 // DC alone is not zero is cut short (`block_access::level`).
 //
-// Each entry answers its refusal number, 1 for an input not of 64 places, then 3 for an output not of 64, and then leaves the output as it
-// was; or 0, and the output holds the samples, with how many of them the clamp raised to 0 and how many it lowered to 255 (document 02,
-// card 4).
+// Each entry answers its refusal, 1 for an input not of 64 places, then 3 for an output not of 64, and then leaves the output as it was; or
+// how many samples the clamp raised to 0 and how many it lowered to 255 (document 02, card 4), and then the output holds the samples.
 
 #![tactic(auto)]
 
@@ -92,7 +91,8 @@ fn write_i32_rows<const ROWS: usize>(numbers: &[i32; 64], output: &mut [u8]) -> 
     ensures output_after { output.new ≡ block eight (first_rows ROWS numbers.now) }
 {
     if all_zero(&numbers[1..8 * ROWS]) {
-        return put_level(output, numbers[0]);
+        // With its length named the compiler stores the 64 samples at once.
+        return put_level(&mut output[..64], numbers[0]);
     }
     if all_fit(&numbers[..8 * ROWS]) {
         return write_fitting::<ROWS>(numbers, output);

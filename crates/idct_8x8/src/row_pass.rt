@@ -7,7 +7,7 @@
 // less than 32, so samples and counts are made from numbers of 16 bits, eight at once. Other rows have the shortcut, which is not the full
 // pass where that wraps; where none of the eight has it, samples and counts are made in the same way.
 //
-// Each column of samples is counted by itself, its rows written out, and then the eight columns are added up (`columns-counted` of
+// Each column of samples is counted by itself, row by row, and then the eight columns are added up (`columns-counted` of
 // block/proofs/Counts.antt): so the compiler counts eight columns at once, which it does not where counting shares a loop with the stores.
 ghost use Rattle.std.specs.Prelude.{◌≡◌, refl, List, true, not, [], map, ◌+◌, ◌<◌, ◌≤◌, pos, T, length, get_or};
 ghost use Rattle.integers.specs.Fits16.{Fits16};

@@ -20,7 +20,8 @@ use passes::zero_shortcut::DC_SHIFT;
 use passes::{PASS1_SHIFT, PASS2_SHIFT};
 use scaling::descale_by;
 
-pub fn columns_4(input: &[i16; 64]) -> [[i32; 4]; 8]
+pub fn columns_4(input: &[i16]) -> [[i32; 4]; 8]
+    requires { length input.now ≡ 64 }
     ensures { result ≡ columns (column_pass four) input.now }
 {
     let mut w = [[0i32; 4]; 8];

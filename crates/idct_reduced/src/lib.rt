@@ -7,9 +7,9 @@
 // `load_column_2`), and neither they nor its columns play a part (`four-reads`, `two-reads` of block/proofs/Unread.antt). A block of which
 // DC alone is not zero is cut short (`block_access::level`).
 //
-// Each entry answers its refusal number, 1 for an input not of 64 places, then 3 for an output of the wrong length, and then leaves the
-// output as it was; or 0, and the output holds the samples, with how many of them the clamp raised to 0 and how many it lowered to 255
-// (document 02, card 4).
+// Each entry answers its refusal, 1 for an input not of 64 places, then 3 for an output of the wrong length, and then leaves the output as
+// it was; or how many samples the clamp raised to 0 and how many it lowered to 255 (document 02, card 4), and then the output holds the
+// samples.
 
 #![tactic(auto)]
 
@@ -50,8 +50,8 @@ pub fn pass_4(p: [i32; 8], shift: u32) -> [i32; 4]
 }
 
 // The samples of the 4×4 block. By itself, as a large array costs time where a function begins.
-fn write_full_4x4(input: &[i16; 64], output: &mut [u8]) -> u32
-    requires { length output.old ≡ 16 }
+fn write_full_4x4(input: &[i16], output: &mut [u8]) -> u32
+    requires { (length input.now ≡ 64) × (length output.old ≡ 16) }
     ensures value { result ≡ counted tally_one (unclamped four input.now) }
     ensures output_after { output.new ≡ block four input.now }
 {
@@ -60,13 +60,14 @@ fn write_full_4x4(input: &[i16; 64], output: &mut [u8]) -> u32
 
 // The samples of the 4×4 block, for the entry and for a plane; the answer has both counts in one number (`tally_one`). So they are handed on
 // in a register: a struct goes through memory, where two counts written one by one are slow to read as one.
-pub fn write_4x4(input: &[i16; 64], output: &mut [u8]) -> u32
+pub fn write_4x4(input: &[i16], output: &mut [u8]) -> u32
     requires { (length input.now ≡ 64) × (length output.old ≡ 16) }
     ensures value { result ≡ counted tally_one (unclamped four input.now) }
     ensures output_after { output.new ≡ block four input.now }
 {
     if all_zero(&input[1..64]) { // 4×4
-        return put_level(output, i32::from(input[0]));
+        // With its length named the compiler stores the 16 samples at once.
+        return put_level(&mut output[..16], i32::from(input[0]));
     }
     write_full_4x4(input, output)
 }
@@ -77,13 +78,13 @@ pub fn islow_block_4x4(input: &[i16], output: &mut [u8]) -> Result<Clamped, Refu
     ensures value { told no_counts result ≡ clamped_answer (inverse_tests 16 input.now output.old) (block_raised four input.now) (block_lowered four input.now) }
     ensures output_after { output.new ≡ written (status_of result) (block four input.now) output.old }
 {
-    let input = input.as_array().ok_or(Refusal::Block)?;
+    let input = input.as_array::<64>().ok_or(Refusal::Block)?;
     Refusal::Output.unless(output.len() == 16)?;
     Ok(clamped(write_4x4(input, output)))
 }
 
 // The samples of the 2×2 block.
-pub fn write_2x2(input: &[i16; 64], output: &mut [u8]) -> u32
+pub fn write_2x2(input: &[i16], output: &mut [u8]) -> u32
     requires { (length input.now ≡ 64) × (length output.old ≡ 4) }
     ensures value { result ≡ counted tally_one (unclamped two input.now) }
     ensures output_after { output.new ≡ block two input.now }
@@ -95,7 +96,7 @@ pub fn write_2x2(input: &[i16; 64], output: &mut [u8]) -> u32
 // here and not in `write_2x2`, where numbers that it loads one by one would keep the columns from being loaded eight at once.
 fn write_2x2_short(input: &[i16; 64], output: &mut [u8]) -> u32
     requires { length output.old ≡ 4 }
-    ensures value { result ≡ counted tally_one (unclamped two input.now) }
+    ensures counts { result ≡ counted tally_one (unclamped two input.now) }
     ensures output_after { output.new ≡ block two input.now }
 {
     if (input[1] | input[8]) == 0 {

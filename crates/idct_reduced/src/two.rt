@@ -43,7 +43,8 @@ fn pass_2(p: [i32; 8], shift: u32) -> [i32; 2]
     [descale_by(v[0], shift), descale_by(v[1], shift)]
 }
 
-pub fn columns_2(input: &[i16; 64]) -> [[i32; 2]; 8]
+pub fn columns_2(input: &[i16]) -> [[i32; 2]; 8]
+    requires { length input.now ≡ 64 }
     ensures { result ≡ columns (column_pass two) input.now }
 {
     let mut w = [[0i32; 2]; 8];

@@ -18,6 +18,12 @@ one_left [] value e = absurd (omega arith)
 one_left (x ∷ []) value e = refl
 one_left (x ∷ y ∷ r) value e = absurd (omega arith)
 
+pub two_left : {A : Type 0} (place : List A) (first second : A) → length place ≡ 2 → set (set place 0 first) 1 second ≡ first ∷ second ∷ []
+two_left [] first second e = absurd (omega arith)
+two_left (x ∷ []) first second e = absurd (omega arith)
+two_left (x ∷ y ∷ []) first second e = refl
+two_left (x ∷ y ∷ z ∷ r) first second e = absurd (omega arith)
+
 none-before : (s u : ℕ) → written s u s ≡ 0 → 0 ≡ s
 none-before s u e = by (ℕ_discrete s 0)
   where

@@ -114,14 +114,18 @@ pub extern "C" fn jpeg_block_fdct_quantize_guarded(
     ensures nonzero_ac_after { nonzero_ac.new ≡ written result ((guarded_answer block.now quant.now divisors.now).value.nonzero_ac ∷ []) nonzero_ac.old }
     ensures record_divisors_after { record_divisors.new ≡ written result (guarded_answer block.now quant.now divisors.now).value.divisors record_divisors.old }
 {
-    match guarded_room(block, quant, divisors.len()) {
-        Ok(()) => status(put_record(
-            record_of(block, quant, divisors),
-            dc,
-            ac,
-            nonzero_ac,
-            record_divisors,
-        )),
-        Err(refusal) => refusal.number(),
+    if let Err(refusal) = guarded_room(block, quant, divisors.len()) {
+        return refusal.number();
     }
+    if let Err(refusal) = record_room(dc.len(), ac.len(), nonzero_ac.len(), record_divisors.len()) {
+        return refusal.number();
+    }
+    put_parts(
+        record_of(block, quant, divisors),
+        dc,
+        ac,
+        nonzero_ac,
+        record_divisors,
+    );
+    0
 }

@@ -126,7 +126,10 @@ pub extern "C" fn jpeg_block_bench_queue_turn(
     match turned.outcome {
         Ok(coded) => {
             put_state(turned.state, state);
-            answer.copy_from_slice(&[coded.listed, word_number(coded.word)]);
+            // One by one: an array of them would be stored singly and read back at once to be
+            // copied, and that waits for the stores.
+            answer[0] = coded.listed;
+            answer[1] = word_number(coded.word);
             0
         }
         Err(refusal) => refusal.number(),

@@ -33,8 +33,9 @@ fn same_divisors(quant: &[u8], other: &[u8]) -> bool
     same
 }
 
-// A row of blocks, one after the other: as each has 64 places, the compiler makes eight loads and
-// eight stores of it. A copy of the whole row at once would be slow for strips of a block's width.
+// A row of blocks, one after the other. Each is read whole, into 64 places of its own, before a place of
+// the output is written: the compiler makes eight loads and eight stores of it. A copy of the whole row
+// at once would be slow for strips of a block's width.
 fn copy_blocks(row: &[i16], out: &mut [i16])
     requires row_len { length row.now % 64 ≡ 0 }
     requires out_len { length out.old ≡ length row.now }
@@ -43,7 +44,9 @@ fn copy_blocks(row: &[i16], out: &mut [i16])
     for k in 0..row.len() / 64 {
         let at = 64 * k;
         let end = at + 64;
-        out[at..end].copy_from_slice(&row[at..end]);
+        let mut block = [0i16; 64];
+        block.copy_from_slice(&row[at..end]);
+        out[at..end].copy_from_slice(&block);
     }
 }
 

@@ -10,7 +10,7 @@ pub mod decode;
 pub mod join;
 mod runs;
 
-ghost use Rattle.std.specs.Prelude.{◌≡◌, ◌+◌, ◌*◌, ◌/◌, ◌≤◌, ◌<◌, length, IfOk};
+ghost use Rattle.std.specs.Prelude.{◌≡◌, ◌+◌, ◌*◌, ◌/◌, ◌≤◌, ◌<◌, min, length, IfOk};
 ghost use Rattle.std.proofs.Math.Seq.{paste};
 ghost use Rattle.refusals.specs.Refusals.{status, written};
 ghost use Rattle.refusals.specs.Numbers.{status_of, told};
@@ -43,6 +43,12 @@ pub fn blocks_of(n: usize) -> usize
     ensures upper_bound { result ≤ 512 }
 {
     (n + 7) / 8
+}
+
+pub fn lesser(a: usize, b: usize) -> usize
+    ensures { result ≡ min a b }
+{
+    a.min(b)
 }
 
 // A plane that no call refuses.
@@ -147,6 +153,20 @@ impl<'a> Plane<'a> {
             self.code_block(&wider, k, out);
         }
     }
+}
+
+// A block of samples that no call refuses, where no `Plane` is at hand.
+pub fn block_at(samples: &[u8], width: usize, height: usize, x: usize, y: usize) -> [u8; 64]
+    requires plane_of { PlaneOf samples.now width height }
+    requires x_bound { (x < blocks width) × (y < blocks height) }
+    ensures { result ≡ block_at samples.now width height x y }
+{
+    let plane = Plane {
+        samples,
+        width,
+        height,
+    };
+    plane.block_at(x, y)
 }
 
 // Coefficients of a plane, and their table.

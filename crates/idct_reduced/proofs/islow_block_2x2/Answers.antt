@@ -19,4 +19,4 @@ returns-clause-value c =
     let same : c.in_ok-input.input.now ≡ xs = search rules in
     let long : length xs ≡ 64 = search rules in
     entry-answered two xs (lit≤ tt) c.clamped.ensures (inverse_tests 4 xs c.args.output.now) (has long then search rules then tt)
-    (c.write_2x2_short.ensures.value ∙ ap (λ (ys : List ℤ). counted tally_one (unclamped two ys)) same)
+    (c.write_2x2_short.ensures.counts ∙ ap (λ (ys : List ℤ). counted tally_one (unclamped two ys)) same)

@@ -17,4 +17,4 @@ returns-then-all_zero c =
     let xs = c.args.input.now in
     let long : length xs ≡ 64 = omega arith in
     let made = level-made two refl xs (subst Alone (first-all xs long) (rows-alone 8 63 xs (omega arith) c.all_zero.ensures c.if-all_zero.true)) c.requires (dc-read c.from.type_inv (c.from.ensures ∙ to_z-of_z w16 (get_or xs 0 (pos 0)) (search rules))) (c.put_level.ensures.value, c.put_level.ensures.output_after) in
-    record { value = made.0; output_after = made.1 }
+    record { counts = made.0; output_after = made.1 }

@@ -7,6 +7,7 @@ use Rattle.bench_queue.specs.Told.{Reported, Turned, listed_of, word_told}
 use Rattle.bench_queue.specs.Calls.{report_tests, report_answer, turn_tests, turn_answer, turn_output}
 use Rattle.bench_queue.specs.declared.BenchQueue.{BenchQueue}
 use Rattle.jpeg_block.specs.Queue.{handed_state, word_number}
+use Rattle.jpeg_block.proofs.Places.{two_left}
 use Rattle.jpeg_block.proofs.Handed.{ten, of-ok, of-err, nonzero, in-range, turn-tests, out-kept}
 use Rattle.jpeg_block.proofs.queue.jpeg_block_bench_queue_turn.Goals as goal
 
@@ -35,7 +36,7 @@ returns-in-Ok-outcome-clause-answer_after c =
     let turned = c.turn-turned.ensures.value ∙ ap (λ (q : BenchQueue). turn_answer q c.args.l c.args.out.now) c.handed_state-q.ensures in
     let listed = ap listed_of (sym c.in-Ok-outcome.is) ∙ ap (λ (t : Turned). t.listed) turned in
     let word = c.word_number.ensures ∙ ap word_number (ap word_told (sym c.in-Ok-outcome.is) ∙ ap (λ (t : Turned). t.word) turned) in
-    wrote _ _ refl (c.copy_from_slice.ensures.after ∙ (λ i. listed i ∷ word i ∷ []))
+    wrote _ _ refl (two_left c.args.answer.now _ _ c.if-answer-ne2.false ∙ (λ i. listed i ∷ word i ∷ []))
 
 pub returns-in-Err-outcome-clause-value : goal.returns-in-Err-outcome-clause-value
 unfolding report_answer turn_answer

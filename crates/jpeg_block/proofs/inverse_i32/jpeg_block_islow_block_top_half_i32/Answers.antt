@@ -1,0 +1,12 @@
+use mathlib.Core.Path.{refl, sym, ◌∙◌}
+use Rattle.jpeg_block.proofs.Handed.{nonzero}
+use Rattle.jpeg_block.proofs.Counted.{call-refused, call-made}
+use Rattle.jpeg_block.proofs.inverse_i32.jpeg_block_islow_block_top_half_i32.Goals as goal
+
+pub returns-in-Err : goal.returns-in-Err
+returns-in-Err c =
+    let all = call-refused _ _ _ _ _ (c.number.ensures ∙ c.in-Err.ensures) (λ z. nonzero c.in-Err.refusal (sym c.number.ensures ∙ z)) in record { value = all.0; output_after = all.1.0; counts_after = all.1.1 }
+
+pub returns-in-Ok : goal.returns-in-Ok
+returns-in-Ok c =
+    let all = call-made _ _ _ _ tt _ _ c.in_default.ensures refl (c.in-Ok.ensures.value, c.in-Ok.ensures.output_after) c.put_counts.ensures in record { value = all.0; output_after = all.1.0; counts_after = all.1.1 }
