@@ -5,12 +5,14 @@ use Prim.Native.Nat.{ℕ}
 use lib.Dec.{T}
 use lib.ListN.{length, set}
 use Rattle.refusals.specs.Refusals.{Test, status, written}
-use Rattle.refusals.specs.Numbers.{Answer}
+use Rattle.refusals.specs.declared.Refusal.{Refusal}
+use Rattle.refusals.specs.Numbers.{Answer, number}
 use Rattle.refusals.proofs.Refusals.{has, lacks, kept, wrote, numbered}
 use Rattle.block.specs.Clamped.{no_counts, clamped_answer}
 use Rattle.block.specs.declared.Clamped.{Clamped}
 use Rattle.jpeg_block.specs.Counts.{counts_tests, counts_left}
 use Rattle.jpeg_block.proofs.Places.{two_left, first-passed}
+use Rattle.jpeg_block.proofs.Handed.{nonzero}
 
 -- ---- the place
 
@@ -29,6 +31,10 @@ module _ (samples output counts : List ℕ) where
   -- where any of the tests fails
   pub call-refused : (us : List Test) (left : List ℕ) {s : ℕ} → s ≡ status us → (s ≡ 0 → ⊥) → (s ≡ status us) × ((output ≡ written s samples output) × (counts ≡ written s left counts))
   call-refused us left tested h = (tested, (kept _ output h, kept _ counts h))
+
+  -- the same of a refusal's number
+  pub call-stopped : (us : List Test) (left : List ℕ) (e : Refusal) {s : ℕ} → s ≡ number e → number e ≡ status us → (s ≡ status us) × ((output ≡ written s samples output) × (counts ≡ written s left counts))
+  call-stopped us left e n tested = call-refused us left (n ∙ tested) (λ z. nonzero e (sym n ∙ z))
 
   -- where none fails: of an entry with the tests ts, which answers `clamped_answer` and leaves the samples
   pub call-made : (ts : List Test) → T (numbered ts) → (raised lowered : ℕ) {s : ℕ} {answer : Answer Clamped} {out place : List ℕ} → s ≡ status (ts ++ counts_tests (length counts)) → s ≡ 0 →

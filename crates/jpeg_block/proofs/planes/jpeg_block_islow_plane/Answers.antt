@@ -1,14 +1,13 @@
-use mathlib.Core.Path.{refl, sym, ◌∙◌}
+use mathlib.Core.Path.{refl}
 use Rattle.plane.specs.Scale.{plane_inverse_tests}
 use Rattle.refusals.proofs.Numbers.{err-status, stopped}
-use Rattle.jpeg_block.proofs.Handed.{nonzero}
-use Rattle.jpeg_block.proofs.Counted.{call-refused, call-made}
+use Rattle.jpeg_block.proofs.Counted.{call-stopped, call-made}
 use Rattle.jpeg_block.proofs.planes.jpeg_block_islow_plane.Goals as goal
 
 pub returns-in-Err : goal.returns-in-Err
 unfolding plane_inverse_tests
 returns-in-Err c =
-    let all = call-refused _ _ _ _ _ (c.number.ensures ∙ c.in-Err.ensures) (λ z. nonzero c.in-Err.refusal (sym c.number.ensures ∙ z)) in record { value = all.0; output_after = all.1.0; counts_after = all.1.1 }
+    let all = call-stopped _ _ _ _ _ c.in-Err.refusal c.number.ensures c.in-Err.ensures in record { value = all.0; output_after = all.1.0; counts_after = all.1.1 }
 
 pub returns-in-Ok : goal.returns-in-Ok
 unfolding plane_inverse_tests
